@@ -1,0 +1,2 @@
+-- The laws that the proofs of `numbers` share.
+pub mod Machine
