@@ -1,0 +1,3 @@
+-- The definition of words in bytes, and the laws that other crates cite.
+pub mod Wire
+pub mod Laws
