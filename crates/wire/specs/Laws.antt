@@ -3,17 +3,17 @@
 use mathlib.Core.Path.{_≡_, refl, sym, ap, subst, _∙_}
 use mathlib.Core.Logic.{_≢_, _⊎_, inl, inr, ⊎-elim}
 use mathlib.Core.Bool.{Bool, true, false}
-use mathlib.Core.List.{List, _++_, append-assoc}
+use mathlib.Core.List.{List, [], _∷_, _++_, append-assoc}
 use Prim.Native.Nat.{ℕ, zero, suc, _+_, _-_, _*_, _/_, _%_, _≤_, _<_}
-use native.Mathlib.Nat.{div-div-eq-div-mul, mod-eq-of-lt}
+use native.Mathlib.Nat.{add-assoc, div-div-eq-div-mul, mod-eq-of-lt}
 use native.Mathlib.Numerals.{add-one, add-two, add-three}
 use native.Mathlib.Omega.{arith}
 use lib.Dec.{ltb}
 use lib.IntN.{ℤ, pos, negsuc, _-ℤ_}
 use lib.ListN.{length, getD, set, take, drop, length-set, List·getD-eq-default}
-use lib.Seq.{getD-set-same, getD-set-other, lt-length-set, sets-eq}
-use mir.Syntax.{w32}
-use mir.Val.{SFits}
+use lib.Seq.{getD-set-same, getD-set-other, lt-length-set, sets-eq, getD-drop, getD-append-seam, getD-append-add}
+use mir.Syntax.{w8, w32}
+use mir.Val.{Fits, SFits}
 use borrow.Author.Tests.{lt-ltb, le-ltb, ltb-true, ltb-false}
 use Rattle.wire.specs.Wire.{byteAt, joined, u32At, i32At, signedOf, bitsOf, bytes4, putU32}
 
@@ -79,6 +79,10 @@ past-end s at h = sym (List·getD-eq-default s 0 h)
 pub record Bytes (s : List ℕ) : Type 0 where
   pub below : (i : ℕ) → byteAt s i < 256
 
+-- as a slice's own rule says it: `slice-bytes _ (c .shared-slice-known .given)`
+pub slice-bytes : (s : List ℕ) → ((i : ℕ) → Fits w8 (byteAt s i)) → Bytes s
+slice-bytes s f = record { below = λ i. f i .fits }
+
 pub u32-below : (s : List ℕ) (at : ℕ) → Bytes s → u32At s at < 4294967296
 unfolding u32At
 u32-below s at b = omega (arith, b .below at, b .below (at + 1), b .below (at + 2), b .below (at + 3))
@@ -133,3 +137,44 @@ put-other s at n j o =
 pub put-parts : (s : List ℕ) (at n : ℕ) → at + 4 ≤ length s → putU32 s at n ≡ take at s ++ (bytes4 n ++ drop (at + 4) s)
 unfolding putU32 bytes4
 put-parts s at n h = simp (add-one, add-two, add-three) (sets-eq (bytes4 n) s at h ∙ append-assoc (take at s) (bytes4 n) (drop (at + 4) s))
+
+-- bytes stay bytes
+set-below : (s : List ℕ) (i v j : ℕ) → ((k : ℕ) → getD s k 0 < 256) → v < 256 → getD (set s i v) j 0 < 256
+set-below [] i v j b h = b j
+set-below (x ∷ xs) zero v zero b h = h
+set-below (x ∷ xs) zero v (suc j) b h = b (suc j)
+set-below (x ∷ xs) (suc i) v zero b h = b 0
+set-below (x ∷ xs) (suc i) v (suc j) b h = set-below xs i v j (λ k. b (suc k)) h
+
+set-bytes : {s : List ℕ} (i v : ℕ) → v < 256 → Bytes s → Bytes (set s i v)
+set-bytes {s} i v h b = record { below = λ j. set-below s i v j (b .below) h }
+
+pub put-bytes : (s : List ℕ) (at n : ℕ) → Bytes s → Bytes (putU32 s at n)
+unfolding putU32
+put-bytes s at n b =
+    set-bytes (at + 3) _ (omega arith)
+    (set-bytes (at + 2) _ (omega arith) (set-bytes (at + 1) _ (omega arith) (set-bytes at _ (omega arith) b)))
+
+-- a word that lies apart is kept
+pub read-other : (s : List ℕ) (at n k : ℕ) → (k + 4 ≤ at) ⊎ (at + 4 ≤ k) → u32At (putU32 s at n) k ≡ u32At s k
+unfolding u32At
+read-other s at n k o =
+    let clear : (j : ℕ) → k ≤ j → j < k + 4 → (j < at) ⊎ (at + 4 ≤ j) =
+    λ j p q. ⊎-elim (λ (l : k + 4 ≤ at). inl (omega arith)) (λ (l : at + 4 ≤ k). inr (omega arith)) o in
+    simp (
+      put-other s at n k (clear k (omega arith) (omega arith)),
+      put-other s at n (k + 1) (clear (k + 1) (omega arith) (omega arith)),
+      put-other s at n (k + 2) (clear (k + 2) (omega arith) (omega arith)),
+      put-other s at n (k + 3) (clear (k + 3) (omega arith) (omega arith)),
+    )
+
+-- the word of a part is the word of the whole, further on
+pub read-drop : (s : List ℕ) (k at : ℕ) → u32At (drop k s) at ≡ u32At s (k + at)
+unfolding u32At
+read-drop s k at = simp (getD-drop, ← add-assoc)
+
+-- a word that stands between two parts
+pub read-parts : (p q : List ℕ) (n : ℕ) → n < 4294967296 → u32At (p ++ (bytes4 n ++ q)) (length p) ≡ n
+unfolding u32At bytes4
+read-parts p q n h =
+    simp (getD-append-seam, getD-append-add) (joined-bytes n h)
