@@ -2,7 +2,7 @@
 -- number that went from 32 to 64 bits, and tests on bits.
 use mathlib.Core.Path.{_≡_, refl, sym, ap, subst, _∙_}
 use mathlib.Core.Bool.{Bool, true, false, cond}
-use Prim.Native.Nat.{ℕ, zero, suc, _+_, _-_, _*_, _/_, _%_, _^_, _≤_, _<_}
+use Prim.Native.Nat.{ℕ, zero, suc, _+_, _-_, _*_, _/_, _^_, _≤_, _<_}
 use native.Mathlib.Nat.{mul-le-mul, div-le-self}
 use native.Mathlib.Omega.{arith}
 use lib.Dec.{T, ltb, eqb}
@@ -24,22 +24,22 @@ never e = absurd (subst T (sym e) tt)
 pub too-low : (x : ℤ) → ltZ x lowest ≡ true → exact x ≡ Undefined
 unfolding exact inRange
 too-low (pos n) e = never e
-too-low (negsuc n) e = simp (lt-leb n 2147483647 (ltb-true 2147483647 n e))
+too-low (negsuc n) e = simp (lt-leb n (mag lowest) (ltb-true (mag lowest) n e))
 
 pub too-high : (x : ℤ) → ltZ highest x ≡ true → exact x ≡ Undefined
 unfolding exact inRange
-too-high (pos n) e = simp (lt-leb n 2147483647 (ltb-true 2147483647 n e))
+too-high (pos n) e = simp (lt-leb n (mag highest) (ltb-true (mag highest) n e))
 too-high (negsuc n) e = never e
 
 pub within : (x : ℤ) → ltZ x lowest ≡ false → ltZ highest x ≡ false → exact x ≡ Number x
 unfolding exact inRange
-within (pos n) p q = simp (le-leb n 2147483647 (ltb-false 2147483647 n q))
-within (negsuc n) p q = simp (le-leb n 2147483647 (ltb-false 2147483647 n p))
+within (pos n) p q = simp (le-leb n (mag highest) (ltb-false (mag highest) n q))
+within (negsuc n) p q = simp (le-leb n (mag lowest) (ltb-false (mag lowest) n p))
 
 -- a number that neither test refuses fits 32 bits
 pub fits-32 : (x : ℤ) → ltZ x lowest ≡ false → ltZ highest x ≡ false → SFits w32 x
-fits-32 (pos n) p q = record { sfits = omega (arith, ltb-false 2147483647 n q) }
-fits-32 (negsuc n) p q = record { sfits = omega (arith, ltb-false 2147483647 n p) }
+fits-32 (pos n) p q = record { sfits = omega (arith, ltb-false (mag highest) n q) }
+fits-32 (negsuc n) p q = record { sfits = omega (arith, ltb-false (mag lowest) n p) }
 
 -- ---- how large a result can be
 

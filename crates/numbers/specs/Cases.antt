@@ -1,8 +1,6 @@
 -- Worked cases of the definition: those of the text, and the ends of the range. Each is computed. Assumes nothing.
 use mathlib.Core.Path.{_≡_, refl}
-use Prim.Native.Nat.{ℕ}
 use lib.IntN.{ℤ, pos, negsuc}
-use Rattle.numbers.specs.declared.Value.{Value}
 use Rattle.numbers.specs.declared.Value.the-variants.{Number, Undefined}
 use Rattle.numbers.specs.Numbers.{lowest, highest, inRange, exact, unlessZero, sumOf, differenceOf, productOf, quotientOf, remainderOf}
 

@@ -2,21 +2,21 @@
 -- is a number lies in the range, quotient and remainder divide, and the comparators are those of the whole numbers. Each goes by
 -- the cases of the definition that it is about. Assumes nothing.
 use mathlib.Core.Path.{_≡_, refl, sym, ap, subst, _∙_}
-use mathlib.Core.Bool.{Bool, true, false, not, cond, _&&_}
+use mathlib.Core.Bool.{Bool, true, false, cond, _&&_}
 use mathlib.Core.Logic.{_⊎_, inl, inr, _≢_}
-use Prim.Native.Nat.{ℕ, zero, suc, _+_, _*_, _/_, _%_, _≤_, _<_}
+use Prim.Native.Nat.{ℕ, zero, suc, _+_, _*_, _/_, _%_, _<_}
 use native.Mathlib.Nat.{div-add-mod', mod-lt, zero-mul}
 use native.Mathlib.Omega.{arith}
-use lib.Dec.{T, eqb, leb, ltb, leb→le, le→leb}
+use lib.Dec.{T, eqb, leb→le, le→leb}
 use lib.IntN.{ℤ, pos, negsuc, negℤ, natAbs, _+ℤ_, _*ℤ_, negℤ-+ℤ}
-use lib.Signed.{ltZ, leZ, nonNeg, quotZ, remZ, _≤ℤ_}
+use lib.Signed.{mag, leZ, nonNeg, quotZ, remZ, _≤ℤ_}
 use mir.Syntax.{w32}
 use mir.Val.{SFits}
-use borrow.Author.Tests.{lt-leb, eq-eqb, eqb-true, lt-ltb, le-ltb, ltb-true, ltb-false, le-leb}
+use borrow.Author.Tests.{lt-leb, eq-eqb, eqb-true}
 use Rattle.numbers.specs.declared.Value.{Value}
 use Rattle.numbers.specs.declared.Value.the-variants.{Number, Undefined}
 use Rattle.numbers.specs.declared.Truth.the-variants.{Undefined as Unknown}
-use Rattle.numbers.specs.Numbers.{lowest, highest, inRange, exact, equal, unlessZero, sumOf, differenceOf, productOf, quotientOf, remainderOf, operate, onNumbers, evaluate, holds, judge, compare}
+use Rattle.numbers.specs.Numbers.{lowest, highest, inRange, exact, equal, unlessZero, sumOf, differenceOf, productOf, quotientOf, remainderOf, operate, onNumbers, evaluate, judge, compare}
 
 -- ---- a value that is a number lies in the range
 
@@ -26,12 +26,12 @@ pub record InRange (z : ℤ) : Type 0 where
 
 -- the same, as 32 bits of the machine hold it
 pub in-range-fits : {z : ℤ} → InRange z → SFits w32 z
-in-range-fits {z = pos n} r = record { sfits = omega (arith, leb→le n 2147483647 (r .high .le)) }
-in-range-fits {z = negsuc n} r = record { sfits = omega (arith, leb→le n 2147483647 (r .low .le)) }
+in-range-fits {z = pos n} r = record { sfits = omega (arith, leb→le n (mag highest) (r .high .le)) }
+in-range-fits {z = negsuc n} r = record { sfits = omega (arith, leb→le n (mag lowest) (r .low .le)) }
 
 pub fits-in-range : {z : ℤ} → SFits w32 z → InRange z
-fits-in-range {z = pos n} f = record { low = record { le = tt }; high = record { le = le→leb n 2147483647 (omega arith) } }
-fits-in-range {z = negsuc n} f = record { low = record { le = le→leb n 2147483647 (omega arith) }; high = record { le = tt } }
+fits-in-range {z = pos n} f = record { low = record { le = tt }; high = record { le = le→leb n (mag highest) (omega arith) } }
+fits-in-range {z = negsuc n} f = record { low = record { le = le→leb n (mag lowest) (omega arith) }; high = record { le = tt } }
 
 both : (s t : Bool) → s && t ≡ true → T s × T t
 both true true e = (tt, tt)

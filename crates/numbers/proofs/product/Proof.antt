@@ -13,8 +13,8 @@ unfolding productOf
 product-spec =
     tie.close
     (tie.spec
-    (λ c. cast-fits (c .fits .a))
-    (λ c. cast-fits (c .fits .b))
+    (λ c. search (cast-fits, needs))
+    (λ c. search (cast-fits, needs))
     (λ c. op-fits _*ℤ_ product-fits (c .fits .a) (c .fits .b))
     (λ c κs. search needs)
     (λ c. c .narrow .ensures ∙ op-exact _*ℤ_ product-fits (c .before .fits .a) (c .before .fits .b)))

@@ -14,8 +14,8 @@ remainder-spec =
     tie.close
     (tie.spec
     (λ c. sym (by-zero _ (c .before .fits .b) (c .if1 .taken)))
-    (λ c. cast-fits (c .before .fits .a))
-    (λ c. cast-fits (c .before .fits .b))
+    (λ c. search (cast-fits, needs))
+    (λ c. search (cast-fits, needs))
     (λ c. (divides (c .before .fits .b) (c .if1 .left), op-fits quotZ quotient-fits (c .before .fits .a) (c .before .fits .b)))
     (λ c κs. search needs)
     (λ c.

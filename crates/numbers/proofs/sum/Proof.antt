@@ -13,8 +13,8 @@ unfolding sumOf
 sum-spec =
     tie.close
     (tie.spec
-    (λ c. cast-fits (c .fits .a))
-    (λ c. cast-fits (c .fits .b))
+    (λ c. search (cast-fits, needs))
+    (λ c. search (cast-fits, needs))
     (λ c. op-fits _+ℤ_ sum-fits (c .fits .a) (c .fits .b))
     (λ c κs. search needs)
     (λ c. c .narrow .ensures ∙ op-exact _+ℤ_ sum-fits (c .before .fits .a) (c .before .fits .b)))
