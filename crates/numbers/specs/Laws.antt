@@ -1,6 +1,6 @@
 -- Laws of the definition, for a reader who asks whether it says what it should, and for the crates that cite them: a value that
--- is a number lies in the range, quotient and remainder divide, and the comparators are those of the whole numbers. Each goes by
--- the cases of the definition that it is about. Assumes nothing.
+-- is a number lies in the range, quotient and remainder divide, `equal` is equality, and no number but a comparator's answers.
+-- Each goes by the cases of the definition that it is about. Assumes nothing.
 use mathlib.Core.Path.{_≡_, refl, sym, ap, subst, _∙_}
 use mathlib.Core.Bool.{Bool, true, false, cond, _&&_}
 use mathlib.Core.Logic.{_⊎_, inl, inr, _≢_}
@@ -42,7 +42,7 @@ in-range : (z : ℤ) → inRange z ≡ true → InRange z
 unfolding inRange
 in-range z e = let h = both (leZ lowest z) (leZ z highest) e in record { low = record { le = h .0 }; high = record { le = h .1 } }
 
--- what a value is, if it is a number
+-- if the value is a number, it lies in the range
 pub record Ranged (v : Value) : Type 0 where
   pub number : (z : ℤ) → v ≡ Number z → InRange z
 

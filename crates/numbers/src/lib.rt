@@ -16,17 +16,22 @@ pub enum Truth {
     Undefined,
 }
 
+const LOWEST: i64 = -2147483648;
+
+const HIGHEST: i64 = 2147483647;
+
 // x where it lies in the range. Every operation is worked out in 64 bits, where none can wrap, and comes by here.
 fn narrow(x: i64) -> Value
     ensures { λ r. ⌜ r ≡ Numbers.exact x ⌝ }
 {
-    if x < -2147483648 {
+    if x < LOWEST {
         return Value::Undefined;
     }
-    if 2147483647 < x {
+    if HIGHEST < x {
         return Value::Undefined;
     }
-    Value::Number(x as i32)
+    let number = x as i32;
+    Value::Number(number)
 }
 
 pub fn sum(a: i32, b: i32) -> Value

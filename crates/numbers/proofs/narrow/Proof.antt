@@ -8,14 +8,14 @@ use Rattle.numbers.proofs.Machine.{fits-32, too-low, too-high, within}
 use Rattle.numbers.proofs.narrow.Statement.{statement}
 use Rattle.numbers.proofs.narrow.Tie as tie
 
-cast-t3 : tie.Need-cast-t3
-cast-t3 c = fits-32 _ (c .before .if1 .left) (c .if2 .left)
+cast-number : tie.Need-cast-number
+cast-number c = fits-32 _ (c .before .if1 .left) (c .if2 .left)
 
 returns-3 : tie.Need-returns-3
 returns-3 c =
     let s = c .before .before in
     let f = s .fits .x in
-    let g : SFits w32 (s .args .x) = simp (toZ-ofZ f) at (cast-t3 c) in
+    let g : SFits w32 (s .args .x) = simp (toZ-ofZ f) at (cast-number c) in
     simp (toZ-ofZ f, toZ-ofZ g, within (s .args .x) (simp (toZ-ofZ f) at (c .before .if1 .left)) (simp (toZ-ofZ f) at (c .if2 .left)))
 
 returns : tie.Need-returns
@@ -29,4 +29,4 @@ returns-2 c =
     sym (too-high (s .args .x) (simp (toZ-ofZ (s .fits .x)) at (c .if2 .taken)))
 
 pub narrow-spec : {M : Type 1} → statement M
-narrow-spec = tie.close (tie.spec returns returns-2 cast-t3 returns-3)
+narrow-spec = tie.close (tie.spec returns returns-2 cast-number returns-3)
