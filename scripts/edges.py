@@ -1,8 +1,9 @@
 #!/usr/bin/env python3
-"""Write the cases of crates/edges and the lines that it must print: crates/edges/stdin and crates/edges/stdout.
+"""Write the cases of crates/edges and the lines that it must print: the files stdin and stdout of a folder.
 
 The rules are worked out here on Python's whole numbers, from the text alone and not from the code that is tested.
 """
+import argparse
 import itertools
 import pathlib
 
@@ -97,7 +98,10 @@ def cases():
 
 
 def main():
-    folder = pathlib.Path(__file__).resolve().parent.parent / "crates" / "edges"
+    stored = pathlib.Path(__file__).resolve().parent.parent / "crates" / "edges"
+    parser = argparse.ArgumentParser(description=__doc__)
+    parser.add_argument("folder", nargs="?", type=pathlib.Path, default=stored, help="where to write both (default: crates/edges)")
+    folder = parser.parse_args().folder
     done = list(cases())
     (folder / "stdin").write_bytes(b"".join(case for case, _ in done))
     (folder / "stdout").write_text("".join(line + "\n" for _, line in done))
