@@ -1,9 +1,9 @@
 # Nadhirukh: a proved engine for Constraint Handling Rules over whole numbers.
 .PHONY: demo test fmt
 
-# Build what there is and run the main job on an example.
+# Prove and build what there is, and run the main job on an example.
 demo:
-	@rt check
+	@scripts/demo
 
 # The gate: every proof, must-fail edit, program and host test; the last line is 'N passed, M failed'.
 test:
