@@ -1,0 +1,16 @@
+//! Links the proved library where the feature `gateway` asks for it.
+
+use std::env;
+use std::path::Path;
+
+fn main() {
+    println!("cargo:rerun-if-changed=build.rs");
+    if env::var_os("CARGO_FEATURE_GATEWAY").is_none() {
+        return;
+    }
+    let package = env::var("CARGO_MANIFEST_DIR").expect("cargo names the package's folder");
+    let folder = Path::new(&package).join("../target/staticlib");
+    println!("cargo:rustc-link-search=native={}", folder.display());
+    println!("cargo:rustc-link-lib=static=gateway");
+    println!("cargo:rerun-if-changed={}", folder.join("libgateway.a").display());
+}

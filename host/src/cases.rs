@@ -1,0 +1,195 @@
+//! Random cases from a seed: good, damaged and near every limit. The same seed always gives the
+//! same case.
+
+pub mod damage;
+pub mod edges;
+pub mod goals;
+pub mod random;
+pub mod rules;
+pub mod tables;
+
+use crate::build::{self, Rule};
+use crate::format::{ANSWER_LEN, MAX_LIMIT};
+use crate::plain;
+use random::Random;
+use tables::Style;
+
+/// The call that a case is for.
+#[derive(Clone, Copy, Debug, PartialEq, Eq)]
+pub enum Call {
+    Check,
+    Run,
+    Weigh,
+}
+
+/// A call's input; what the call does not take is empty or 0.
+#[derive(Clone, Debug, PartialEq, Eq)]
+pub struct Case {
+    pub call: Call,
+    pub table: Vec<u8>,
+    pub goal: Vec<u8>,
+    pub weights: Vec<u8>,
+    pub limit: u32,
+    pub answer_len: usize,
+}
+
+/// A table before its bytes: what goals, weights and damage are made from.
+#[derive(Clone, Debug)]
+pub struct Plan {
+    pub arities: Vec<u8>,
+    pub rules: Vec<Rule>,
+    /// The most facts that a goal should have so that no search grows too long.
+    pub most_facts: usize,
+    /// The most steps that a run should be given, for the same reason.
+    pub most_steps: u32,
+}
+
+impl Plan {
+    /// The table's bytes.
+    pub fn bytes(&self) -> Vec<u8> {
+        build::table(&self.arities, &self.rules)
+    }
+
+    /// The table's records.
+    pub fn records(&self) -> Vec<Vec<u8>> {
+        build::records(&self.arities, &self.rules)
+    }
+}
+
+/// A case of any sort.
+pub fn any_case(seed: u64) -> Case {
+    let mut random = Random::new(seed);
+    match random.below(100) {
+        0..=24 => check_case(&mut random),
+        25..=29 => edge_case(&mut random),
+        30..=39 => refused_run_case(&mut random),
+        40..=74 => run_case(&mut random),
+        _ => weigh_case(&mut random),
+    }
+}
+
+/// A table to check: mostly a damaged one.
+pub fn check_case(random: &mut Random) -> Case {
+    let style = Style::any(random);
+    let plan = tables::table(random, style);
+    let table = match random.below(6) {
+        0 => plan.bytes(),
+        _ => damage::table(random, &plan),
+    };
+    Case::check(table)
+}
+
+/// One of the tables near a limit, to check, or to run with an empty goal.
+pub fn edge_case(random: &mut Random) -> Case {
+    let edges = edges::tables();
+    let table = random.pick(&edges).clone();
+    if random.chance(50) {
+        return Case::check(table);
+    }
+    Case::run(table, Vec::new(), random.up_to(3), ANSWER_LEN)
+}
+
+/// A run that is refused, mostly by its goal, limit or answer buffer.
+pub fn refused_run_case(random: &mut Random) -> Case {
+    let style = Style::any(random);
+    let plan = tables::table(random, style);
+    let mut case = Case::run(plan.bytes(), Vec::new(), 100, ANSWER_LEN);
+    case.goal = goals::goal(random, &plan, plan.most_facts);
+    // Each fault may come with others, since the order of the tests counts too.
+    if random.chance(60) {
+        case.goal = goals::damaged(random, &plan);
+    }
+    if random.chance(35) {
+        case.limit = *random.pick(&[MAX_LIMIT + 1, MAX_LIMIT + 2, u32::MAX, 1 << 31]);
+    }
+    if random.chance(35) {
+        let short = random.below(ANSWER_LEN as u64) as usize;
+        case.answer_len = *random.pick(&[ANSWER_LEN - 1, 0, short]);
+    }
+    if random.chance(4) {
+        case.table = damage::table(random, &plan);
+    }
+    case
+}
+
+/// A run of a good table and goal.
+pub fn run_case(random: &mut Random) -> Case {
+    let style = Style::any(random);
+    let plan = tables::table(random, style);
+    let goal = goals::goal(random, &plan, plan.most_facts);
+    let extra = *random.pick(&[0, 0, 0, 1, 21, 22, 500]);
+    let limit = plan.most_steps;
+    let mut case = Case::run(plan.bytes(), goal, limit, ANSWER_LEN + extra);
+    case.limit = limit_near(random, &case);
+    case
+}
+
+/// A step limit around the run's own length. One that is much greater is given only to a run
+/// that ends early, so that no case takes long.
+fn limit_near(random: &mut Random, case: &Case) -> u32 {
+    let mut answer = vec![0; case.answer_len];
+    let outcome = plain::run(&case.table, &case.goal, case.limit, &mut answer);
+    if outcome.number == 2 {
+        return *random.pick(&[case.limit, case.limit, random.up_to(20)]);
+    }
+    let steps = outcome.steps;
+    match random.below(12) {
+        0 => steps,
+        1 => steps.saturating_sub(1),
+        2 => steps + 1,
+        3 => random.up_to(steps),
+        4 => random.up_to(3),
+        5 | 6 => MAX_LIMIT,
+        _ => case.limit,
+    }
+}
+
+/// A table to weigh.
+pub fn weigh_case(random: &mut Random) -> Case {
+    let (plan, mut weights) = tables::weighed(random);
+    if random.chance(30) {
+        goals::change_weights(random, &mut weights);
+    }
+    let mut table = plan.bytes();
+    if random.chance(5) {
+        table = damage::table(random, &plan);
+    }
+    let mut goal = goals::goal(random, &plan, 64);
+    if random.chance(20) {
+        goal = goals::damaged(random, &plan);
+    }
+    Case {
+        call: Call::Weigh,
+        table,
+        goal,
+        weights,
+        limit: 0,
+        answer_len: 0,
+    }
+}
+
+impl Case {
+    /// A case that checks a table.
+    pub fn check(table: Vec<u8>) -> Case {
+        Case {
+            call: Call::Check,
+            table,
+            goal: Vec::new(),
+            weights: Vec::new(),
+            limit: 0,
+            answer_len: 0,
+        }
+    }
+
+    /// A case that runs a goal.
+    pub fn run(table: Vec<u8>, goal: Vec<u8>, limit: u32, answer_len: usize) -> Case {
+        Case {
+            call: Call::Run,
+            table,
+            goal,
+            weights: Vec::new(),
+            limit,
+            answer_len,
+        }
+    }
+}

@@ -1,0 +1,21 @@
+//! The second engine for Constraint Handling Rules over whole numbers, written apart from the
+//! proved one, and what is needed to compare the two.
+//!
+//! - [`format`]: record kinds, record lengths and limits, each named once.
+//! - [`names`]: fact identifiers, symbols, rules and occurrences, which count separate things.
+//! - [`outcome`]: the six numbers of a result, and the two of a weighing.
+//! - [`reference`](crate::reference): the second engine, written to be read.
+//! - [`plain`]: a plain fast engine with the proved engine's scan, the yardstick for its speed.
+//! - [`build`]: tables and goals in readable form, for tests and examples.
+//! - [`cases`]: random cases, good, damaged and near every limit.
+//! - [`ffi`]: the proved library through its C interface (feature `gateway`).
+
+pub mod build;
+pub mod cases;
+#[cfg(feature = "gateway")]
+pub mod ffi;
+pub mod format;
+pub mod names;
+pub mod outcome;
+pub mod plain;
+pub mod reference;

@@ -1,0 +1,29 @@
+//! The second engine: document 01 in Rust, written to be read and compared with.
+//!
+//! - [`numbers`]: operations and comparators, exact.
+//! - [`table`]: a decoded table.
+//! - [`fields`]: slots, expressions and places from bytes (20).
+//! - [`check`](mod@check): a table record by record (16 to 23).
+//! - [`goal`]: a goal's facts (32, 34, 33).
+//! - [`occurrences`]: each symbol's head places, in their order.
+//! - [`state`]: stack, store, history and next identifier.
+//! - [`instances`]: the instances of an occurrence, in their order.
+//! - [`step`]: what the top entry decides.
+//! - [`run`](mod@run): steps up to an ending (0 to 7, 35, 36) and the answer.
+//! - [`weigh`](mod@weigh): weighing (40, 41, 42).
+
+pub mod check;
+pub mod fields;
+pub mod goal;
+pub mod instances;
+pub mod numbers;
+pub mod occurrences;
+pub mod run;
+pub mod state;
+pub mod step;
+pub mod table;
+pub mod weigh;
+
+pub use check::check;
+pub use run::run;
+pub use weigh::weigh;
