@@ -12,5 +12,8 @@ fn main() {
     let folder = Path::new(&package).join("../target/staticlib");
     println!("cargo:rustc-link-search=native={}", folder.display());
     println!("cargo:rustc-link-lib=static=gateway");
-    println!("cargo:rerun-if-changed={}", folder.join("libgateway.a").display());
+    println!(
+        "cargo:rerun-if-changed={}",
+        folder.join("libgateway.a").display()
+    );
 }

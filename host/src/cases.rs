@@ -130,7 +130,8 @@ fn limit_near(random: &mut Random, case: &Case) -> u32 {
     let mut answer = vec![0; case.answer_len];
     let outcome = plain::run(&case.table, &case.goal, case.limit, &mut answer);
     if outcome.number == 2 {
-        return *random.pick(&[case.limit, case.limit, random.up_to(20)]);
+        let few = random.up_to(20);
+        return *random.pick(&[case.limit, case.limit, few]);
     }
     let steps = outcome.steps;
     match random.below(12) {

@@ -8,7 +8,8 @@
 //! - [`plain`]: a plain fast engine with the proved engine's scan, the yardstick for its speed.
 //! - [`build`]: tables and goals in readable form, for tests and examples.
 //! - [`cases`]: random cases, good, damaged and near every limit.
-//! - [`ffi`]: the proved library through its C interface (feature `gateway`).
+//! - [`verdict`]: everything that a call gives back for a case, and the reference's verdict.
+//! - `ffi`: the proved library through its C interface (feature `gateway`).
 
 pub mod build;
 pub mod cases;
@@ -19,3 +20,4 @@ pub mod names;
 pub mod outcome;
 pub mod plain;
 pub mod reference;
+pub mod verdict;

@@ -72,7 +72,8 @@ fn change_field(random: &mut Random, records: &mut [Vec<u8>]) {
 fn rename_variable(random: &mut Random, records: &mut [Vec<u8>]) {
     let at = any_index(random, records);
     let record = &mut records[at];
-    if matches!(record[0], GUARD | BODY_FACT) {
+    let has_slot = record.len() >= 3 + SLOT_LEN;
+    if has_slot && matches!(record[0], GUARD | BODY_FACT) {
         let number = *random.pick(&[0, 5, 13, 15, 16]);
         record[3..3 + SLOT_LEN].copy_from_slice(&[2, number, 0, 0, 0]);
     }

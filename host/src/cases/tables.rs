@@ -21,6 +21,8 @@ pub enum Style {
     Shrinking,
     /// One family of rules that fills store, stack or history, or never ends.
     Growing,
+    /// Facts that fired are replaced, so that the history's room is used again.
+    Turnover,
 }
 
 impl Style {
@@ -33,6 +35,7 @@ impl Style {
             Style::ManyHeads,
             Style::Shrinking,
             Style::Growing,
+            Style::Turnover,
         ])
     }
 }
@@ -44,6 +47,7 @@ pub fn table(random: &mut Random, style: Style) -> Plan {
     let (most_facts, most_steps) = match style {
         Style::ManyHeads => (7, 120),
         Style::Growing => return growing(random),
+        Style::Turnover => return turnover(random),
         _ => (*random.pick(&[3, 8, 16]), 600),
     };
     let rules = (0..rules)
@@ -130,6 +134,32 @@ fn growing(random: &mut Random) -> Plan {
         rules,
         most_facts: *random.pick(&[1, 2, 10, 25, 40, 64]),
         most_steps: 1500,
+    }
+}
+
+/// p(X) ==> q(X), and p and q together give way to the next p: up to 400 entries pass through
+/// the history, few of them at a time.
+fn turnover(random: &mut Random) -> Plan {
+    let (x, y) = (variable(0), variable(1));
+    let partner = if random.chance(50) { x } else { y };
+    let last = alone(constant(random.between(1, 400) as i32));
+    let next = of(SUM, x, constant(1));
+    let mut rules = vec![
+        Rule::new().keep(0, &[x]).add(1, &[alone(x)]),
+        Rule::new()
+            .remove(0, &[x])
+            .remove(1, &[partner])
+            .guard(alone(x), LESS, last)
+            .add(0, &[next]),
+    ];
+    if random.chance(50) {
+        rules.insert(random.between(0, 2), small_rule(random));
+    }
+    Plan {
+        arities: vec![1, 1],
+        rules,
+        most_facts: *random.pick(&[1, 1, 2, 5, 20]),
+        most_steps: 3000,
     }
 }
 

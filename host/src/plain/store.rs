@@ -42,7 +42,9 @@ impl Store {
 
     /// The row of an identifier.
     pub fn row(&self, id: FactId) -> Option<usize> {
-        self.ids[..self.len].iter().position(|stored| *stored == id.0)
+        self.ids[..self.len]
+            .iter()
+            .position(|stored| *stored == id.0)
     }
 
     /// Removes the facts of these identifiers, and closes the gaps.

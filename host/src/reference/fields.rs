@@ -69,9 +69,7 @@ fn used_slot(bytes: &[u8]) -> Option<Slot> {
     let value = i32::from_le_bytes([bytes[1], bytes[2], bytes[3], bytes[4]]);
     match bytes[0] {
         1 => Some(Slot::Constant(value)),
-        2 if (0..VARIABLES as i32).contains(&value) => {
-            Some(Slot::Variable(Variable(value as u8)))
-        }
+        2 if (0..VARIABLES as i32).contains(&value) => Some(Slot::Variable(Variable(value as u8))),
         _ => None,
     }
 }

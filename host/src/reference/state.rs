@@ -48,7 +48,11 @@ impl State {
     /// The state that a goal starts from: its facts wait, the first on top.
     pub fn start(goal: &[Fact]) -> State {
         State {
-            stack: goal.iter().rev().map(|fact| Entry::Waiting(*fact)).collect(),
+            stack: goal
+                .iter()
+                .rev()
+                .map(|fact| Entry::Waiting(*fact))
+                .collect(),
             store: Vec::new(),
             history: Vec::new(),
             next: FactId::FIRST,

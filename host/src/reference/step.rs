@@ -186,7 +186,9 @@ fn activate(state: &mut State, fact: Fact) {
     let id = state.next;
     let symbol: Symbol = fact.symbol;
     state.stack.pop();
-    state.stack.push(Entry::Active(id, symbol, Occurrence::FIRST));
+    state
+        .stack
+        .push(Entry::Active(id, symbol, Occurrence::FIRST));
     state.store.push(Stored { id, fact });
     state.next = id.next();
 }

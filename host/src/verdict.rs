@@ -1,0 +1,60 @@
+//! Everything that a call gives back for a case: numbers and every byte of the answer buffer.
+
+use crate::cases::{Call, Case};
+use crate::outcome::{Outcome, Weighing};
+use crate::reference;
+
+/// What an answer buffer holds before a call.
+pub const FILL: u8 = 0xA5;
+
+/// What a call gives back.
+#[derive(Clone, Debug, PartialEq, Eq)]
+pub struct Verdict {
+    pub outcome: Outcome,
+    /// W and the step bound; 0 for calls that do not weigh.
+    pub bound: [u32; 2],
+    /// The whole answer buffer after the call; empty for calls that do not run.
+    pub answer: Vec<u8>,
+}
+
+impl Verdict {
+    /// The verdict of a call that lends no answer buffer and does not weigh.
+    pub fn of_check(outcome: Outcome) -> Verdict {
+        Verdict {
+            outcome,
+            bound: [0; 2],
+            answer: Vec::new(),
+        }
+    }
+
+    /// The verdict of a weighing.
+    pub fn of_weighing(weighing: Weighing) -> Verdict {
+        Verdict {
+            outcome: weighing.outcome,
+            bound: [weighing.weight, weighing.bound],
+            answer: Vec::new(),
+        }
+    }
+
+    /// The verdict of a run by some engine, on an answer buffer full of [`FILL`].
+    pub fn of_run(case: &Case, run: impl Fn(&[u8], &[u8], u32, &mut [u8]) -> Outcome) -> Verdict {
+        let mut answer = vec![FILL; case.answer_len];
+        let outcome = run(&case.table, &case.goal, case.limit, &mut answer);
+        Verdict {
+            outcome,
+            bound: [0; 2],
+            answer,
+        }
+    }
+}
+
+/// The reference's verdict on a case.
+pub fn reference(case: &Case) -> Verdict {
+    match case.call {
+        Call::Check => Verdict::of_check(reference::check(&case.table)),
+        Call::Run => Verdict::of_run(case, reference::run),
+        Call::Weigh => {
+            Verdict::of_weighing(reference::weigh(&case.table, &case.weights, &case.goal))
+        }
+    }
+}

@@ -1,0 +1,98 @@
+//! Many random cases: the two engines of this package agree, and every number occurs.
+
+use nadhirukh_host::cases::random::Random;
+use nadhirukh_host::cases::{any_case, edges, run_case, Call, Case};
+use nadhirukh_host::outcome::{ENDINGS, REFUSALS};
+use nadhirukh_host::reference::run::{admit, run_read};
+use nadhirukh_host::reference::step::Pruning;
+use nadhirukh_host::verdict::{self, Verdict, FILL};
+use nadhirukh_host::{format, plain, reference};
+
+const CASES: u64 = 20_000;
+
+/// The plain engine's verdict, on calls that it has.
+fn plain_verdict(case: &Case) -> Option<Verdict> {
+    match case.call {
+        Call::Check => Some(Verdict::of_check(plain::check(&case.table))),
+        Call::Run => Some(Verdict::of_run(case, plain::run)),
+        Call::Weigh => None,
+    }
+}
+
+#[test]
+fn the_plain_engine_agrees_and_every_number_occurs() {
+    let mut seen = [0_u32; 43];
+    for seed in 0..CASES {
+        let case = any_case(seed);
+        let expected = verdict::reference(&case);
+        seen[expected.outcome.number as usize] += 1;
+        if let Some(verdict) = plain_verdict(&case) {
+            assert_eq!(verdict, expected, "seed {}", seed);
+        }
+    }
+    for number in ENDINGS.iter().chain(&REFUSALS) {
+        let count = seen[*number as usize];
+        assert!(count >= 20, "number {} occurred {} times", number, count);
+    }
+}
+
+#[test]
+fn the_engines_agree_on_every_edge() {
+    for table in edges::tables() {
+        assert_eq!(
+            plain::check(&table),
+            reference::check(&table),
+            "{:?}",
+            table
+        );
+    }
+}
+
+#[test]
+fn only_a_done_run_writes_and_only_its_records() {
+    for seed in 0..3_000 {
+        let case = run_case(&mut Random::new(seed));
+        let verdict = verdict::reference(&case);
+        let records = match verdict.outcome.number {
+            0 => verdict.outcome.stored as usize * format::STORED_RECORD_LEN,
+            _ => 0,
+        };
+        let behind = &verdict.answer[records..];
+        assert!(behind.iter().all(|byte| *byte == FILL), "seed {}", seed);
+    }
+}
+
+#[test]
+fn pruning_the_history_changes_no_step() {
+    let mut compared = 0;
+    for seed in 0..4_000 {
+        let case = run_case(&mut Random::new(seed));
+        let (table, goal) =
+            admit(&case.table, &case.goal, case.limit, case.answer_len).expect("a good case");
+        let mut pruned = Vec::new();
+        let mut kept = Vec::new();
+        let (outcome, state) = run_read(&table, &goal, case.limit, Pruning::Prune, |step, _| {
+            pruned.push(step.clone());
+        });
+        // With the limit on entries pruning decides about 7; up to there the steps are the same.
+        let steps = if outcome.number == 7 {
+            outcome.steps
+        } else {
+            case.limit
+        };
+        let (full, full_state) = run_read(&table, &goal, steps, Pruning::KeepAll, |step, _| {
+            kept.push(step.clone());
+        });
+        assert_eq!(kept, pruned, "seed {}", seed);
+        assert_eq!(full_state.store, state.store, "seed {}", seed);
+        if outcome.number != 7 {
+            assert_eq!(full, outcome, "seed {}", seed);
+        }
+        compared += u32::from(full_state.history.len() > state.history.len());
+    }
+    assert!(
+        compared > 50,
+        "pruning dropped entries in {} runs",
+        compared
+    );
+}
