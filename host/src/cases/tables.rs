@@ -137,22 +137,28 @@ fn growing(random: &mut Random) -> Plan {
     }
 }
 
-/// p(X) ==> q(X), and p and q together give way to the next p: up to 400 entries pass through
-/// the history, few of them at a time.
+/// p(X) fires once, perhaps adding q(X), and then gives way to p(X + 1): up to 400 entries pass
+/// through the history, few of them at a time.
 fn turnover(random: &mut Random) -> Plan {
-    let (x, y) = (variable(0), variable(1));
-    let partner = if random.chance(50) { x } else { y };
+    let x = variable(0);
     let last = alone(constant(random.between(1, 400) as i32));
-    let next = of(SUM, x, constant(1));
-    let mut rules = vec![
-        Rule::new().keep(0, &[x]).add(1, &[alone(x)]),
-        Rule::new()
-            .remove(0, &[x])
-            .remove(1, &[partner])
-            .guard(alone(x), LESS, last)
-            .add(0, &[next]),
-    ];
-    if random.chance(50) {
+    let once = Rule::new().keep(0, &[x]);
+    let next = Rule::new().remove(0, &[x]);
+    let mut rules = match random.below(4) {
+        // Nothing is added.
+        0 | 1 => vec![once, next],
+        // The fact added goes at once.
+        2 => {
+            let gone = Rule::new().remove(1, &[x]);
+            vec![gone, once.add(1, &[alone(x)]), next]
+        }
+        // The fact added removes p, whose entry stays on the stack.
+        _ => vec![once.add(1, &[alone(x)]), next.remove(1, &[variable(1)])],
+    };
+    let replace = rules.pop().expect("the last rule replaces p");
+    let up = of(SUM, x, constant(1));
+    rules.push(replace.guard(alone(x), LESS, last).add(0, &[up]));
+    if random.chance(40) {
         rules.insert(random.between(0, 2), small_rule(random));
     }
     Plan {
