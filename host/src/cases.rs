@@ -81,12 +81,22 @@ pub fn check_case(random: &mut Random) -> Case {
 
 /// One of the tables near a limit, to check, or to run with an empty goal.
 pub fn edge_case(random: &mut Random) -> Case {
+    if random.chance(5) {
+        return longest_case(random);
+    }
     let edges = edges::tables();
     let table = random.pick(&edges).clone();
     if random.chance(50) {
         return Case::check(table);
     }
     Case::run(table, Vec::new(), random.up_to(3), ANSWER_LEN)
+}
+
+/// The longest good table with a goal.
+pub fn longest_case(random: &mut Random) -> Case {
+    let plan = tables::longest(random);
+    let goal = goals::goal(random, &plan, plan.most_facts);
+    Case::run(plan.bytes(), goal, plan.most_steps, ANSWER_LEN)
 }
 
 /// A run that is refused, mostly by its goal, limit or answer buffer.

@@ -1,7 +1,7 @@
 //! Random good tables, in styles that lead to different endings.
 
 use super::random::Random;
-use super::rules::{any_symbol, rule, RulePlan};
+use super::rules::{rule, RulePlan};
 use super::Plan;
 use crate::build::{
     alone, constant, of, variable, Expression, Rule, AT_LEAST, AT_MOST, DIFFERENCE, GREATER, LESS,
@@ -100,7 +100,8 @@ fn growing(random: &mut Random) -> Plan {
     let y = variable(1);
     let up = of(SUM, x, constant(1));
     let copies = random.between(2, 4);
-    let rule = match random.below(8) {
+    let family = random.below(8);
+    let rule = match family {
         // Store: a kept fact adds others.
         0 => add(Rule::new().keep(0, &[x]), copies, up),
         1 => add(Rule::new().keep(0, &[x]), copies - 1, alone(constant(1))),
@@ -129,10 +130,15 @@ fn growing(random: &mut Random) -> Plan {
     if random.chance(40) {
         rules.insert(random.between(0, 1), small_rule(random));
     }
+    // Pairs fill the history from 17 facts on.
+    let most_facts = match family {
+        3 | 4 => *random.pick(&[16, 17, 25, 64]),
+        _ => *random.pick(&[1, 2, 10, 25, 40, 64]),
+    };
     Plan {
         arities: vec![1, 1],
         rules,
-        most_facts: *random.pick(&[1, 2, 10, 25, 40, 64]),
+        most_facts,
         most_steps: 1500,
     }
 }
@@ -265,7 +271,6 @@ pub fn longest(random: &mut Random) -> Plan {
         };
         rules.push(rule(random, &arities, plan));
     }
-    debug_assert!(any_symbol(random, &arities) < 32);
     Plan {
         arities,
         rules,

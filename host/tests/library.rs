@@ -1,0 +1,22 @@
+//! The proved library against the reference, through the C interface (feature `gateway`).
+#![cfg(feature = "gateway")]
+
+use nadhirukh_host::cases::{any_case, edges, Case};
+use nadhirukh_host::{ffi, verdict};
+
+#[test]
+fn random_cases_give_equal_numbers_and_bytes() {
+    for seed in 0..20_000 {
+        let case = any_case(seed);
+        let expected = Ok(verdict::reference(&case));
+        assert_eq!(ffi::verdict(&case), expected, "seed {}", seed);
+    }
+}
+
+#[test]
+fn tables_at_every_edge_give_equal_numbers() {
+    for table in edges::tables().into_iter().chain(edges::longest_tables(1)) {
+        let case = Case::check(table);
+        assert_eq!(ffi::verdict(&case), Ok(verdict::reference(&case)));
+    }
+}
