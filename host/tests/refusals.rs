@@ -101,8 +101,9 @@ fn one_too_many_is_19_before_its_fields_are_read() {
     let symbols = [[1, 0].repeat(32), vec![1, 9, 8]].concat();
     assert_eq!(checks_to(&symbols), (19, 64));
     let fifth = (0..5).fold(Rule::new(), |rule, _| rule.keep(0, &[]));
-    assert_eq!(checks_to(&table(&[0], &[fifth.clone()])), (19, 3 + 4 * 22));
-    let undeclared = fifth.keep(9, &[]);
+    assert_eq!(checks_to(&table(&[0], &[fifth])), (19, 3 + 4 * 22));
+    let four = (0..4).fold(Rule::new(), |rule, _| rule.keep(0, &[]));
+    let undeclared = four.keep(9, &[]);
     assert_eq!(checks_to(&table(&[0], &[undeclared])), (19, 3 + 4 * 22));
     let fails = (0..5).fold(Rule::new().keep(0, &[]), |rule, _| rule.fail());
     assert_eq!(checks_to(&table(&[0], &[fails])), (19, 3 + 22 + 4));

@@ -3,7 +3,7 @@
 use nadhirukh_host::build::{alone, constant, goal, table, variable, Rule};
 use nadhirukh_host::cases::random::Random;
 use nadhirukh_host::cases::{goals, tables};
-use nadhirukh_host::format::{ANSWER_LEN, GREATEST_BOUND, MAX_LIMIT, STORE};
+use nadhirukh_host::format::{ANSWER_LEN, GREATEST_BOUND, STORE};
 use nadhirukh_host::outcome::Outcome;
 use nadhirukh_host::{plain, reference};
 
@@ -81,7 +81,13 @@ fn the_greatest_bound_is_a_legal_step_limit() {
     let goal = goal(&vec![(0, &[5][..]); 64]);
     let weighed = (0, 0, 16_320, GREATEST_BOUND);
     assert_eq!(weighs(&table, &[255, 1], &goal), weighed);
-    assert!(GREATEST_BOUND <= MAX_LIMIT);
+    let mut answer = vec![0; ANSWER_LEN];
+    let outcome = reference::run(&table, &goal, GREATEST_BOUND, &mut answer);
+    // Four facts of equal weight go at a time, and leave four light ones.
+    assert_eq!(
+        (outcome.number, outcome.firings, outcome.stored),
+        (0, 16, 64)
+    );
 }
 
 /// A random table that loses weight, with a goal: W, the bound, and the run with that limit.

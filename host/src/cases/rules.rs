@@ -111,7 +111,7 @@ pub fn number(random: &mut Random) -> i32 {
     match random.below(40) {
         0 => i32::MIN,
         1 => i32::MAX,
-        2 => random.next() as i32,
+        2 => random.bits() as i32,
         3 => 1 << random.below(31),
         4 => i32::MIN + 1,
         _ => small(random),

@@ -168,8 +168,9 @@ fn body(items: &[Item], values: &Values) -> Option<[Entry; MAX_ITEMS]> {
             continue;
         }
         let mut arguments = [0; PLACES];
-        for place in 0..usize::from(item.arity) {
-            arguments[place] = item.arguments[place].value(values)?;
+        let used = &item.arguments[..usize::from(item.arity)];
+        for (argument, expression) in arguments.iter_mut().zip(used) {
+            *argument = expression.value(values)?;
         }
         *entry = Entry::Waiting(Fact {
             symbol: item.symbol,

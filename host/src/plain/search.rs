@@ -3,7 +3,7 @@
 use super::decode::{Head, Rule};
 use super::expression::{holds, Values, CONSTANT, VARIABLE};
 use super::store::{Chosen, History, Store};
-use crate::format::{MAX_HEADS, PLACES, VARIABLES};
+use crate::format::{MAX_HEADS, VARIABLES};
 use crate::names::RuleNumber;
 
 /// What a search comes to.
@@ -89,16 +89,14 @@ impl<'a> Search<'a> {
     /// Matches a head with a row of its symbol. A value bound here is overwritten when the
     /// head is tried with the next row, so that nothing needs to be undone.
     fn bind(&mut self, head: &Head, row: usize, mut bound: u32) -> Option<u32> {
-        let arguments = &self.store.arguments[row];
-        for place in 0..PLACES {
-            let slot = head.slots[place];
+        for (slot, argument) in head.slots.iter().zip(self.store.arguments[row]) {
             match slot.tag {
-                CONSTANT if slot.value != arguments[place] => return None,
+                CONSTANT if slot.value != argument => return None,
                 VARIABLE if bound & (1 << slot.value) == 0 => {
                     bound |= 1 << slot.value;
-                    self.values[slot.value as usize] = arguments[place];
+                    self.values[slot.value as usize] = argument;
                 }
-                VARIABLE if self.values[slot.value as usize] != arguments[place] => return None,
+                VARIABLE if self.values[slot.value as usize] != argument => return None,
                 _ => {}
             }
         }

@@ -8,7 +8,7 @@ use crate::names::Symbol;
 /// The arity of a symbol record's body.
 pub fn arity(body: &[u8]) -> Option<usize> {
     let arity = usize::from(body[0]);
-    (arity <= PLACES).then(|| arity)
+    (arity <= PLACES).then_some(arity)
 }
 
 /// A head: a declared symbol, then four slots.
@@ -54,7 +54,7 @@ fn expression(bytes: &[u8]) -> Option<Expression> {
     let (first, second) = bytes[1..].split_at(SLOT_LEN);
     if bytes[0] == 0 {
         let alone = Expression::Alone(used_slot(first)?);
-        return all_zero(second).then(|| alone);
+        return all_zero(second).then_some(alone);
     }
     let operation = Operation::from_byte(bytes[0])?;
     Some(Expression::Of(
