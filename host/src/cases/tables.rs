@@ -100,7 +100,7 @@ fn growing(random: &mut Random) -> Plan {
     let y = variable(1);
     let up = of(SUM, x, constant(1));
     let copies = random.between(2, 4);
-    let family = random.below(8);
+    let family = *random.pick(&[0, 1, 2, 3, 3, 3, 4, 4, 5, 6, 7]);
     let rule = match family {
         // Store: a kept fact adds others.
         0 => add(Rule::new().keep(0, &[x]), copies, up),
