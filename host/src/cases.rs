@@ -1,6 +1,7 @@
 //! Random cases from a seed: good, damaged and near every limit. The same seed always gives the
 //! same case.
 
+pub mod corners;
 pub mod damage;
 pub mod edges;
 pub mod goals;
@@ -10,6 +11,7 @@ pub mod tables;
 
 use crate::build::{self, Rule};
 use crate::format::{ANSWER_LEN, MAX_LIMIT};
+use crate::outcome::Outcome;
 use crate::plain;
 use random::Random;
 use tables::Style;
@@ -122,26 +124,43 @@ pub fn refused_run_case(random: &mut Random) -> Case {
     case
 }
 
-/// A run of a good table and goal.
+/// A run of a good table and goal, mostly one with a firing in it.
 pub fn run_case(random: &mut Random) -> Case {
+    let mut case = good_run(random);
+    let mut outcome = plain_outcome(&case);
+    for _ in 0..2 {
+        if outcome.firings == 0 {
+            case = good_run(random);
+            outcome = plain_outcome(&case);
+        }
+    }
+    case.limit = limit_near(random, case.limit, outcome);
+    case
+}
+
+/// A good table and goal, with the most steps that its plan allows.
+fn good_run(random: &mut Random) -> Case {
+    if random.chance(4) {
+        return corners::case(random);
+    }
     let style = Style::any(random);
     let plan = tables::table(random, style);
     let goal = goals::goal(random, &plan, plan.most_facts);
     let extra = *random.pick(&[0, 0, 0, 1, 21, 22, 500]);
-    let limit = plan.most_steps;
-    let mut case = Case::run(plan.bytes(), goal, limit, ANSWER_LEN + extra);
-    case.limit = limit_near(random, &case);
-    case
+    Case::run(plan.bytes(), goal, plan.most_steps, ANSWER_LEN + extra)
+}
+
+fn plain_outcome(case: &Case) -> Outcome {
+    let mut answer = vec![0; case.answer_len];
+    plain::run(&case.table, &case.goal, case.limit, &mut answer)
 }
 
 /// A step limit around the run's own length. One that is much greater is given only to a run
 /// that ends early, so that no case takes long.
-fn limit_near(random: &mut Random, case: &Case) -> u32 {
-    let mut answer = vec![0; case.answer_len];
-    let outcome = plain::run(&case.table, &case.goal, case.limit, &mut answer);
+fn limit_near(random: &mut Random, limit: u32, outcome: Outcome) -> u32 {
     if outcome.number == 2 {
         let few = random.up_to(20);
-        return *random.pick(&[case.limit, case.limit, few]);
+        return *random.pick(&[limit, limit, few]);
     }
     let steps = outcome.steps;
     match random.below(12) {
@@ -151,7 +170,7 @@ fn limit_near(random: &mut Random, case: &Case) -> u32 {
         3 => random.up_to(steps),
         4 => random.up_to(3),
         5 | 6 => MAX_LIMIT,
-        _ => case.limit,
+        _ => limit,
     }
 }
 

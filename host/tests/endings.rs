@@ -196,3 +196,19 @@ fn partners_are_tried_by_their_list_in_written_head_order() {
     assert_eq!(ids, [1, 4, 6]);
     assert_eq!(answer[44 + 5..44 + 14], [3, 1, 0, 0, 0, 11, 0, 0, 0]);
 }
+
+#[test]
+fn endings_that_meet_in_one_firing_come_in_the_order_4_6_7() {
+    let x = variable(0);
+    let rule = Rule::new()
+        .remove(0, &[x])
+        .add(0, &[of(SUM, x, constant(1))])
+        .add(0, &[alone(constant(0))]);
+    let table = table(&[1], &[rule]);
+    let from = |start: i32| goal(&[(0, &[start])]);
+    // The 256th firing passes the stack's room; the sum is undefined one later, then there too.
+    let later = numbers(&table, &from(i32::MAX - 256), MAX_LIMIT);
+    assert_eq!(later, [6, 0, 511, 255, 256, 1]);
+    let both = numbers(&table, &from(i32::MAX - 255), MAX_LIMIT);
+    assert_eq!(both, [4, 0, 511, 255, 256, 1]);
+}

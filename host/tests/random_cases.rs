@@ -50,7 +50,7 @@ fn the_engines_agree_on_every_edge() {
 
 #[test]
 fn only_a_done_run_writes_and_only_its_records() {
-    for seed in 0..3_000 {
+    for seed in 0..2_000 {
         let case = run_case(&mut Random::new(seed));
         let verdict = verdict::reference(&case);
         let records = match verdict.outcome.number {
@@ -65,7 +65,7 @@ fn only_a_done_run_writes_and_only_its_records() {
 #[test]
 fn pruning_the_history_changes_no_step() {
     let mut compared = 0;
-    for seed in 0..4_000 {
+    for seed in 0..2_500 {
         let case = run_case(&mut Random::new(seed));
         let (table, goal) =
             admit(&case.table, &case.goal, case.limit, case.answer_len).expect("a good case");

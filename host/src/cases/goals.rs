@@ -8,10 +8,11 @@ use crate::format::{GOAL_RECORD_LEN, MAX_GOAL};
 
 /// A good goal of at most so many facts, for the plan's symbols.
 pub fn goal(random: &mut Random, plan: &Plan, most: usize) -> Vec<u8> {
-    let facts = match random.below(10) {
-        0 => most,
-        1 => 0,
-        _ => random.between(1, most),
+    let facts = match random.below(20) {
+        0 => 0,
+        1 | 2 => most,
+        3..=9 => random.between(1, most),
+        _ => random.between((most + 1) / 2, most),
     };
     facts_of(random, plan, facts).concat()
 }
@@ -27,13 +28,11 @@ fn facts_of(random: &mut Random, plan: &Plan, facts: usize) -> Vec<Vec<u8>> {
 fn fact(random: &mut Random, plan: &Plan) -> Vec<u8> {
     let symbol = any_symbol(random, &plan.arities);
     let arity = plan.arities[usize::from(symbol)];
-    let spread = random.chance(30);
-    let mut argument = || {
-        if spread {
-            number(random)
-        } else {
-            small(random)
-        }
+    let spread = random.below(10);
+    let mut argument = || match spread {
+        0 | 1 => number(random),
+        2..=5 => small(random),
+        _ => random.up_to(1) as i32,
     };
     let arguments: Vec<i32> = (0..arity).map(|_| argument()).collect();
     goal_fact(symbol, &arguments)

@@ -42,10 +42,15 @@ impl Style {
 
 /// A good table in a style.
 pub fn table(random: &mut Random, style: Style) -> Plan {
-    let arities = arities(random);
-    let rules = random.between(1, 5);
+    let mut arities = arities(random);
+    let mut rules = random.between(1, 5);
     let (most_facts, most_steps) = match style {
-        Style::ManyHeads => (7, 120),
+        Style::ManyHeads => {
+            // Few symbols of low arity, so that all heads find a fact.
+            arities = arities.iter().take(2).map(|arity| arity / 2).collect();
+            rules = random.between(1, 2);
+            (8, 100)
+        }
         Style::Growing => return growing(random),
         Style::Turnover => return turnover(random),
         _ => (*random.pick(&[3, 8, 16]), 600),
@@ -83,12 +88,13 @@ fn rule_plan(random: &mut Random, style: Style) -> RulePlan {
     };
     let items = match style {
         Style::Shrinking => random.between(0, 1),
+        Style::ManyHeads => *random.pick(&[0, 0, 0, 1, 1, 2]),
         _ => *random.pick(&[0, 1, 1, 1, 2, 2, 3, 4]),
     };
     RulePlan {
         kept,
         removed: heads - kept,
-        guards: *random.pick(&[0, 0, 1, 1, 1, 2, 3, 4]),
+        guards: *random.pick(&[0, 0, 0, 0, 1, 1, 1, 2, 3, 4]),
         items,
         fails: *random.pick(&[0, 0, 0, 10, 30]),
     }

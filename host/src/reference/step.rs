@@ -121,21 +121,19 @@ impl<'a> Machine<'a> {
             identifiers: instance.identifiers,
             body: body.into_iter().map(entry).collect(),
         };
-        let step = if rule.removes(place.head) {
+        let simplifies = rule.removes(place.head);
+        let stack = state.stack.len() - usize::from(simplifies) + firing.body.len();
+        if stack > STACK {
+            return Err(ending_in(6, place.rule));
+        }
+        if self.pruning == Pruning::Prune && history_after(state, rule, &firing) > HISTORY {
+            return Err(ending_in(7, place.rule));
+        }
+        Ok(if simplifies {
             Step::Simplify(firing)
         } else {
             Step::Propagate(firing)
-        };
-        // The room is judged on the state that the firing would leave.
-        let mut after = state.clone();
-        self.apply(&mut after, &step);
-        if after.stack.len() > STACK {
-            return Err(ending_in(6, place.rule));
-        }
-        if self.pruning == Pruning::Prune && after.history.len() > HISTORY {
-            return Err(ending_in(7, place.rule));
-        }
-        Ok(step)
+        })
     }
 
     /// Takes a step that [`Machine::decide`] gave for this state.
@@ -191,6 +189,14 @@ fn activate(state: &mut State, fact: Fact) {
         .push(Entry::Active(id, symbol, Occurrence::FIRST));
     state.store.push(Stored { id, fact });
     state.next = id.next();
+}
+
+/// The length of the history after a firing: entries that name a removed fact are dropped, and
+/// the instance of a rule without removed heads is added.
+fn history_after(state: &State, rule: &Rule, firing: &Firing) -> usize {
+    let gone = removed(rule, &firing.identifiers);
+    let stays = |fired: &&Fired| !fired.identifiers.iter().any(|id| gone.contains(id));
+    state.history.iter().filter(stays).count() + usize::from(rule.is_recorded())
 }
 
 /// The identifiers at the removed heads.
