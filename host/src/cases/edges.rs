@@ -7,7 +7,14 @@ use crate::format::{body_len, END, KEPT, RULE};
 
 /// All tables of this page, good and bad ones.
 pub fn tables() -> Vec<Vec<u8>> {
-    let parts = [counts(), order(), ends(), fields(), variables()];
+    let parts = [
+        counts(),
+        order(),
+        ends(),
+        fields(),
+        variables(),
+        two_faults(),
+    ];
     parts.concat()
 }
 
@@ -148,6 +155,47 @@ fn variables() -> Vec<Vec<u8>> {
         found.push(table(&[1], &late));
     }
     found
+}
+
+/// Records with two faults, of which the earlier test decides.
+fn two_faults() -> Vec<Vec<u8>> {
+    let (x, unbound, bad) = (variable(0), variable(9), variable(99));
+    let one = |rule: Rule| table(&[1], &[rule]);
+    let heads = |count| (0..count).fold(Rule::new(), |rule, _| rule.remove(0, &[x]));
+    let without_end = |mut bytes: Vec<u8>| {
+        bytes.pop();
+        bytes
+    };
+    let full = without_end(table(&[1; 32], &vec![plain_rule(); 64]));
+    let headless = without_end(table(&[1], &vec![plain_rule(); 63]));
+    vec![
+        // 19 before 20 and 22: one too many, with a bad field or an unbound variable.
+        [[1, 0].repeat(32), vec![1, 5, END]].concat(),
+        one(heads(4).remove(7, &[x])),
+        one(heads(4).remove(0, &[bad])),
+        one(with_guards(4).guard(alone(x), 9, alone(x))),
+        one(with_guards(4).guard(alone(x), 0, alone(unbound))),
+        one(with_items(4, 2).add(7, &[])),
+        one(with_items(4, 0).add(0, &[alone(unbound)])),
+        // 20 before 22, whichever side comes first.
+        one(plain_rule().guard(alone(unbound), 0, alone(bad))),
+        one(plain_rule().guard(alone(bad), 0, alone(unbound))),
+        table(
+            &[2],
+            &[Rule::new()
+                .keep(0, &[x, x])
+                .add(0, &[alone(unbound), alone(bad)])],
+        ),
+        // 18 before 19 and 20: a symbol behind rules, the 33rd and with a bad arity.
+        [full.clone(), vec![1, 5, END]].concat(),
+        // 19 for the 65th rule, and 21 for it behind a headless one.
+        [full, vec![RULE, END]].concat(),
+        [headless.clone(), vec![RULE, RULE, END]].concat(),
+        // 18 before 21: a symbol behind a headless rule; 17 before both.
+        [headless.clone(), vec![RULE, 1, 1, END]].concat(),
+        [headless.clone(), vec![RULE, 1]].concat(),
+        [headless, vec![RULE, 5, 9]].concat(),
+    ]
 }
 
 /// The longest good table, and what goes wrong near its end.
