@@ -120,10 +120,8 @@ fn fields() -> Vec<Vec<u8>> {
     let good = table(&[1, 2], &[full]);
     let mut found = Vec::new();
     for at in 0..good.len() {
-        let mut seen = vec![good[at]];
-        for value in [0, 1, 2, 3, 5, 6, 16] {
-            if !seen.contains(&value) && (value < 3 || at % 5 == usize::from(value) % 5) {
-                seen.push(value);
+        for value in [0, 1, 3, 6, 16] {
+            if value != good[at] {
                 let mut bytes = good.clone();
                 bytes[at] = value;
                 found.push(bytes);
