@@ -133,6 +133,24 @@ fn room_in_the_history_is_used_again() {
 }
 
 #[test]
+fn every_removed_fact_frees_its_room_in_the_history() {
+    // p and q fire once each, and go together: two entries come and go at each turn.
+    let (x, y) = (variable(0), variable(1));
+    let up = of(SUM, x, constant(1));
+    let pair = Rule::new()
+        .remove(0, &[x])
+        .remove(1, &[y])
+        .guard(alone(x), LESS, alone(constant(500)))
+        .add(0, &[up])
+        .add(1, &[up]);
+    let rules = [Rule::new().keep(0, &[x]), Rule::new().keep(1, &[x]), pair];
+    let goal = goal(&[(0, &[1]), (1, &[1])]);
+    let ended = numbers(&table(&[1, 1], &rules), &goal, MAX_LIMIT);
+    // A turn: five steps for p; Activate, Propagate, Default and the firing for q.
+    assert_eq!(ended, [0, 0, 9 * 499 + 10, 3 * 499 + 2, 1000, 2]);
+}
+
+#[test]
 fn a_removed_active_fact_keeps_its_entry_on_the_stack() {
     // Each q removes the p below it, whose entry stays: the stack fills, the store does not.
     let x = variable(0);

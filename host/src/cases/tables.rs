@@ -156,7 +156,8 @@ fn turnover(random: &mut Random) -> Plan {
     let last = alone(constant(random.between(1, 400) as i32));
     let once = Rule::new().keep(0, &[x]);
     let next = Rule::new().remove(0, &[x]);
-    let mut rules = match random.below(4) {
+    let variant = random.below(6);
+    let mut rules = match variant {
         // Nothing is added.
         0 | 1 => vec![once, next],
         // The fact added goes at once.
@@ -164,12 +165,21 @@ fn turnover(random: &mut Random) -> Plan {
             let gone = Rule::new().remove(1, &[x]);
             vec![gone, once.add(1, &[alone(x)]), next]
         }
+        // p and q both fire once, and both give way to the next pair.
+        3 | 4 => {
+            let twice = Rule::new().keep(1, &[x]);
+            vec![once, twice, next.remove(1, &[variable(1)])]
+        }
         // The fact added removes p, whose entry stays on the stack.
         _ => vec![once.add(1, &[alone(x)]), next.remove(1, &[variable(1)])],
     };
-    let replace = rules.pop().expect("the last rule replaces p");
     let up = of(SUM, x, constant(1));
-    rules.push(replace.guard(alone(x), LESS, last).add(0, &[up]));
+    let replace = rules.pop().expect("the last rule replaces p");
+    let replace = replace.guard(alone(x), LESS, last).add(0, &[up]);
+    rules.push(match variant {
+        3 | 4 => replace.add(1, &[up]),
+        _ => replace,
+    });
     if random.chance(40) {
         rules.insert(random.between(0, 2), small_rule(random));
     }
