@@ -1,0 +1,17 @@
+pub mod Build
+pub mod Cases
+pub mod Every
+pub mod Lists
+pub mod Good
+pub mod Decoded
+pub mod Longest
+pub mod Loop
+pub mod Sound
+pub mod Places
+pub mod Ranges
+pub mod Kept
+pub mod Order
+pub mod Results
+pub mod Weight
+pub mod Demand3
+pub mod Pruning
