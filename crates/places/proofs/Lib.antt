@@ -1,0 +1,5 @@
+pub mod Total
+pub mod Lists
+pub mod Filling
+pub mod Finding
+pub mod Only

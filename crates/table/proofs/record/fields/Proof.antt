@@ -1,0 +1,18 @@
+-- `record::fields` meets its contract.
+use borrow.Author.Needs.{needs}
+use Rattle.records.proofs.Tests.{chain}
+use Rattle.model.specs.Reading.{fieldsOf}
+use Rattle.table.proofs.record.fields.Statement.{statement}
+use Rattle.table.proofs.record.fields.Tie as tie
+
+pub fields-spec : {M : Type 1} → statement M
+unfolding fieldsOf
+fields-spec =
+    tie.close
+    (tie.spec
+    (λ c κs. search needs)
+    (λ c. search chain)
+    (λ c κs. search needs)
+    (λ c. search chain)
+    (λ c κs. search needs)
+    (λ c. search chain))

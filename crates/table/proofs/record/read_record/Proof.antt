@@ -1,0 +1,17 @@
+-- `record::read_record` meets its contract.
+use borrow.Author.Needs.{needs}
+use Rattle.records.proofs.Tests.{chain}
+use Rattle.model.specs.Reading.{recordOf}
+use Rattle.table.proofs.record.read_record.Statement.{statement}
+use Rattle.table.proofs.record.read_record.Tie as tie
+
+pub read-record-spec : {M : Type 1} → statement M
+unfolding recordOf
+read-record-spec =
+    tie.close
+    (tie.spec
+    (λ c. search chain)
+    (λ c. search needs)
+    (λ c κs. search needs)
+    (λ c κs. search needs)
+    (λ c. rw (← c .before .kind-of .ensures) (search chain)))

@@ -1,0 +1,20 @@
+-- `record::tested` meets its contract.
+use native.Mathlib.Omega.{arith}
+use borrow.Author.Needs.{needs}
+use Rattle.records.proofs.Tests.{chain}
+use Rattle.model.specs.Reading.{testedOf}
+use Rattle.table.proofs.Turns.{cut, whole}
+use Rattle.table.proofs.record.tested.Statement.{statement}
+use Rattle.table.proofs.record.tested.Tie as tie
+
+pub tested-spec : {M : Type 1} → statement M
+unfolding testedOf
+tested-spec =
+    tie.close
+    (tie.spec
+    (λ c κs. search needs)
+    (λ c. rw (← c .before .size-of .ensures) (search chain))
+    (λ c. search needs)
+    (λ c. rw (← c .before .before .size-of .ensures) (search (cut, chain)))
+    (λ c κs. (rw (← c .before .before .size-of .ensures) (search (whole, needs)), omega arith))
+    (λ c. rw (← c .before .before .before .size-of .ensures) (search (whole, chain))))

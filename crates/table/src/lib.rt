@@ -1,0 +1,114 @@
+// Reading a table (document 01, "Table, goal and answer bytes"): record by record, each tested in the order
+// 16, 17, 18, 21, 19, 20, 22; then 23.
+pub mod record;
+
+ghost use mathlib.Core.Path.{_≡_};
+ghost use Rattle.model.specs.Reading.{firstScan, noShape, ended, reading, readOf};
+ghost use Rattle.model.specs.Calls.{refusal, checkOf};
+use model::CallResult;
+use model::Reading;
+use model::RecordStep;
+use model::RuleShape;
+use model::Scan;
+use model::Verdict;
+
+fn no_shape() -> RuleShape
+    ensures { λ r. ⌜ r ≡ noShape ⌝ }
+{
+    RuleShape {
+        start: 0,
+        kept: 0,
+        heads: 0,
+        guards: 0,
+        items: 0,
+    }
+}
+
+fn first_scan() -> Scan
+    ensures { λ r. ⌜ r ≡ firstScan ⌝ }
+{
+    let shape = no_shape();
+    Scan {
+        at: 0,
+        stage: 0,
+        symbols: 0,
+        rules: 0,
+        shape: shape,
+    }
+}
+
+// 23: a good end record ends at p.
+fn end(t: &[u8], p: usize) -> Verdict
+    ensures { λ r. ⌜ r ≡ ended (now (t .entry)) p ⌝ }
+{
+    if p < t.len() {
+        return Verdict::Refused(23, p);
+    }
+    Verdict::Good
+}
+
+fn reading(verdict: Verdict, s: Scan, shapes: [RuleShape; 64]) -> Reading
+    ensures { λ r. ⌜ r ≡ reading verdict (s .symbols) (s .rules) shapes ⌝ }
+{
+    Reading {
+        verdict: verdict,
+        symbols: s.symbols,
+        rules: s.rules,
+        shapes: shapes,
+    }
+}
+
+// The verdict on a table, how many symbols and rules it has, and where its rules stand: up to the first refused record.
+pub fn read(t: &[u8]) -> Reading
+    ensures { λ r. ⌜ r ≡ readOf (now (t .entry)) ⌝ }
+{
+    let none = no_shape();
+    let mut shapes = [none; 64];
+    let mut s = first_scan();
+    let mut left = t.len();
+    while 0 < left {
+        left -= 1;
+        match record::read_record(t, s) {
+            RecordStep::Next(next) => {
+                s = next;
+                let rules = s.rules as usize;
+                let shape = s.shape;
+                if 0 < rules {
+                    shapes[rules - 1] = shape;
+                }
+            }
+            RecordStep::Stop(n, p) => {
+                return reading(Verdict::Refused(n, p), s, shapes);
+            }
+            RecordStep::Done(p) => {
+                return reading(end(t, p), s, shapes);
+            }
+        }
+    }
+    reading(Verdict::Refused(17, t.len()), s, shapes)
+}
+
+// "Checking a good table gives six zeros."
+pub fn check(t: &[u8]) -> CallResult
+    ensures { λ r. ⌜ r ≡ checkOf (now (t .entry)) ⌝ }
+{
+    let reading = read(t);
+    let verdict = reading.verdict;
+    match verdict {
+        Verdict::Good => refusal(0, 0),
+        Verdict::Refused(n, p) => refusal(n, p as u32),
+    }
+}
+
+fn refusal(number: u8, place: u32) -> CallResult
+    ensures { λ r. ⌜ r ≡ refusal number place ⌝ }
+{
+    CallResult {
+        number: number as u32,
+        place: place,
+        steps: 0,
+        firings: 0,
+        identifiers: 0,
+        stored: 0,
+    }
+}

@@ -1,0 +1,199 @@
+// One record: its tests in the order 16, 17; 18, 21, 19; 20, 22, and what is known behind it.
+ghost use mathlib.Core.Path.{_≡_};
+ghost use mathlib.Core.Bool.{false};
+ghost use Prim.Native.Nat.{_+_, _*_, _^_, _≤_, _<_};
+ghost use lib.ListN.{length};
+ghost use Rattle.model.specs.Records.{sizeOf, tooMany};
+ghost use Rattle.model.specs.Reading.{withSymbol, withRule, withPart, withKept, withRemoved, withGuard, withItem, behind, fieldsOf, orderedOf, testedOf, recordOf};
+use model::Kind;
+use model::RecordStep;
+use model::RuleShape;
+use model::Scan;
+use records::fields;
+use records::kinds;
+use records::variables;
+
+// ---- what is known behind a good record
+
+fn with_symbol(s: Scan) -> Scan
+    requires { ⌜ (s .symbols < 32) × (s .at + 2 < 2 ^ 64) ⌝ }
+    ensures { λ r. ⌜ r ≡ withSymbol s ⌝ }
+{
+    let shape = s.shape;
+    Scan {
+        at: s.at + 2,
+        stage: 0,
+        symbols: s.symbols + 1,
+        rules: s.rules,
+        shape: shape,
+    }
+}
+
+fn with_rule(s: Scan) -> Scan
+    requires { ⌜ (s .rules < 64) × (s .at + 1 < 2 ^ 64) ⌝ }
+    ensures { λ r. ⌜ r ≡ withRule s ⌝ }
+{
+    let shape = RuleShape {
+        start: s.at,
+        kept: 0,
+        heads: 0,
+        guards: 0,
+        items: 0,
+    };
+    Scan {
+        at: s.at + 1,
+        stage: 1,
+        symbols: s.symbols,
+        rules: s.rules + 1,
+        shape: shape,
+    }
+}
+
+// The same rule, with one part more.
+fn with_part(s: Scan, size: usize, stage: u8, shape: RuleShape) -> Scan
+    requires { ⌜ s .at + size < 2 ^ 64 ⌝ }
+    ensures { λ r. ⌜ r ≡ withPart s size stage shape ⌝ }
+{
+    Scan {
+        at: s.at + size,
+        stage: stage,
+        symbols: s.symbols,
+        rules: s.rules,
+        shape: shape,
+    }
+}
+
+// Kept heads come first, so that all heads up to a kept one are kept.
+fn with_kept(r: RuleShape) -> RuleShape
+    requires { ⌜ r .heads < 4 ⌝ }
+    ensures { λ q. ⌜ q ≡ withKept r ⌝ }
+{
+    RuleShape {
+        start: r.start,
+        kept: r.heads + 1,
+        heads: r.heads + 1,
+        guards: r.guards,
+        items: r.items,
+    }
+}
+
+fn with_removed(r: RuleShape) -> RuleShape
+    requires { ⌜ r .heads < 4 ⌝ }
+    ensures { λ q. ⌜ q ≡ withRemoved r ⌝ }
+{
+    RuleShape {
+        start: r.start,
+        kept: r.kept,
+        heads: r.heads + 1,
+        guards: r.guards,
+        items: r.items,
+    }
+}
+
+fn with_guard(r: RuleShape) -> RuleShape
+    requires { ⌜ r .guards < 4 ⌝ }
+    ensures { λ q. ⌜ q ≡ withGuard r ⌝ }
+{
+    RuleShape {
+        start: r.start,
+        kept: r.kept,
+        heads: r.heads,
+        guards: r.guards + 1,
+        items: r.items,
+    }
+}
+
+fn with_item(r: RuleShape) -> RuleShape
+    requires { ⌜ r .items < 4 ⌝ }
+    ensures { λ q. ⌜ q ≡ withItem r ⌝ }
+{
+    RuleShape {
+        start: r.start,
+        kept: r.kept,
+        heads: r.heads,
+        guards: r.guards,
+        items: r.items + 1,
+    }
+}
+
+fn behind(s: Scan, k: Kind) -> RecordStep
+    requires { ⌜ (tooMany k s ≡ false) × (s .at + sizeOf k < 2 ^ 64) ⌝ }
+    ensures { λ r. ⌜ r ≡ behind s k ⌝ }
+{
+    let shape = s.shape;
+    match k {
+        Kind::NextSymbol => RecordStep::Next(with_symbol(s)),
+        Kind::NextRule => RecordStep::Next(with_rule(s)),
+        Kind::KeptHead => RecordStep::Next(with_part(s, 22, 2, with_kept(shape))),
+        Kind::RemovedHead => RecordStep::Next(with_part(s, 22, 3, with_removed(shape))),
+        Kind::Comparison => RecordStep::Next(with_part(s, 24, 4, with_guard(shape))),
+        Kind::BodyFact => RecordStep::Next(with_part(s, 46, 5, with_item(shape))),
+        Kind::BodyFail => RecordStep::Next(with_part(s, 1, 5, with_item(shape))),
+        Kind::EndOfTable => RecordStep::Done(s.at + 1),
+        Kind::Unknown => RecordStep::Stop(16, s.at),
+    }
+}
+
+// ---- the tests of a record of kind k, in three layers
+
+// 20, 22
+fn fields(t: &[u8], s: Scan, k: Kind) -> RecordStep
+    requires { ⌜ (tooMany k s ≡ false) × (s .at + sizeOf k ≤ length (now t)) × (s .shape .start + 1 + 22 * s .shape .heads ≤ length (now t)) ⌝ }
+    ensures { λ r. ⌜ r ≡ fieldsOf (now (t .entry)) s k ⌝ }
+{
+    let at = s.at;
+    if fields::bad_field(t, s, k) {
+        return RecordStep::Stop(20, at);
+    }
+    if variables::strange(t, s, k) {
+        return RecordStep::Stop(22, at);
+    }
+    behind(s, k)
+}
+
+// 18, 21, 19
+fn ordered(t: &[u8], s: Scan, k: Kind) -> RecordStep
+    requires { ⌜ (s .at + sizeOf k ≤ length (now t)) × (s .shape .start + 1 + 22 * s .shape .heads ≤ length (now t)) ⌝ }
+    ensures { λ r. ⌜ r ≡ orderedOf (now (t .entry)) s k ⌝ }
+{
+    let at = s.at;
+    if kinds::out_of_order(k, s.stage) {
+        return RecordStep::Stop(18, at);
+    }
+    if kinds::headless(k, s.stage) {
+        return RecordStep::Stop(21, at);
+    }
+    if kinds::too_many(k, s) {
+        return RecordStep::Stop(19, at);
+    }
+    fields(t, s, k)
+}
+
+// 16, 17
+fn tested(t: &[u8], s: Scan, k: Kind) -> RecordStep
+    requires { ⌜ (s .at < length (now t)) × (s .shape .start + 22 * s .shape .heads ≤ s .at) ⌝ }
+    ensures { λ r. ⌜ r ≡ testedOf (now (t .entry)) s k ⌝ }
+{
+    let at = s.at;
+    let size = kinds::size_of(k);
+    if size == 0 {
+        return RecordStep::Stop(16, at);
+    }
+    if t.len() - at < size {
+        return RecordStep::Stop(17, at);
+    }
+    ordered(t, s, k)
+}
+
+// The record where the scan stands; behind the heads of the rule that is being read.
+pub fn read_record(t: &[u8], s: Scan) -> RecordStep
+    requires { ⌜ s .shape .start + 22 * s .shape .heads ≤ s .at ⌝ }
+    ensures { λ r. ⌜ r ≡ recordOf (now (t .entry)) s ⌝ }
+{
+    let at = s.at;
+    if t.len() <= at {
+        return RecordStep::Stop(17, t.len());
+    }
+    let k = kinds::kind_of(t[at]);
+    tested(t, s, k)
+}
