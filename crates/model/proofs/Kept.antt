@@ -59,11 +59,11 @@ rising-down : (lo lo′ hi : ℕ) (ss : List Stored) → lo′ ≤ lo → Rising
 rising-down lo lo′ hi [] h r = omega arith
 rising-down lo lo′ hi (s ∷ ss) h r = (omega (arith, r .0), r .1)
 
-rising-snoc : (lo hi : ℕ) (ss : List Stored) (s : Stored) → s .id .0 ≡ hi → Rising lo hi ss → Rising lo (suc hi) (ss ++ (s ∷ []))
+pub rising-snoc : (lo hi : ℕ) (ss : List Stored) (s : Stored) → s .id .0 ≡ hi → Rising lo hi ss → Rising lo (suc hi) (ss ++ (s ∷ []))
 rising-snoc lo hi [] s e r = (omega arith, omega arith)
 rising-snoc lo hi (x ∷ ss) s e r = (r .0, rising-snoc (suc (x .id .0)) hi ss s e (r .1))
 
-rising-keep : (p : Stored → Bool) (lo hi : ℕ) (ss : List Stored) → Rising lo hi ss → Rising lo hi (keep p ss)
+pub rising-keep : (p : Stored → Bool) (lo hi : ℕ) (ss : List Stored) → Rising lo hi ss → Rising lo hi (keep p ss)
 unfolding keep
 rising-keep p lo hi [] r = r
 rising-keep p lo hi (s ∷ ss) r = go (p s) (rising-keep p (suc (s .id .0)) hi ss (r .1))

@@ -33,7 +33,7 @@ use Rattle.model.proofs.Sound.{same-id, stored-is, FoundIs, Instance, i
 
 -- ---- lists of identifiers
 
-isAmong-append : (i : FactId) (g h : List FactId) → isAmong i (g ++ h) ≡ (isAmong i g || isAmong i h)
+pub isAmong-append : (i : FactId) (g h : List FactId) → isAmong i (g ++ h) ≡ (isAmong i g || isAmong i h)
 unfolding isAmong
 isAmong-append i [] h = refl
 isAmong-append i (j ∷ g) h = go (sameId i j) (isAmong-append i g h)
@@ -64,7 +64,7 @@ pruned-pruned g h fs =
     keep-keep (λ (f : Fired). not (names (f .ids) h)) (λ (f : Fired). not (names (f .ids) g)) (λ (f : Fired). not (names (f .ids) (g ++ h)))
     (λ f. ap not (names-append (f .ids) g h) ∙ not-or (names (f .ids) g) (names (f .ids) h)) fs
 
-sameIds-eq : (is js : List FactId) → sameIds is js ≡ true → is ≡ js
+pub sameIds-eq : (is js : List FactId) → sameIds is js ≡ true → is ≡ js
 unfolding sameIds
 sameIds-eq [] [] e = refl
 sameIds-eq [] (j ∷ js) e = cc
@@ -73,7 +73,7 @@ sameIds-eq (i ∷ is) (j ∷ js) e =
     ap₂ (λ (x : FactId) (y : List FactId). x ∷ y) (same-id i j (and-left (sameId i j) (sameIds is js) e)) (sameIds-eq is js (and-right (sameId i j) (sameIds is js) e))
 
 -- what names no fact of `gone` is in the one history where it is in the other
-inHistory-pruned : (gone : List FactId) (e : Fired) → names (e .ids) gone ≡ false → (fs : List Fired) → inHistory e (pruned gone fs) ≡ inHistory e fs
+pub inHistory-pruned : (gone : List FactId) (e : Fired) → names (e .ids) gone ≡ false → (fs : List Fired) → inHistory e (pruned gone fs) ≡ inHistory e fs
 unfolding pruned keep inHistory sameFired
 inHistory-pruned gone e q [] = refl
 inHistory-pruned gone e q (d ∷ ds) = go (names (d .ids) gone) refl (inHistory-pruned gone e q ds)
@@ -94,7 +94,7 @@ inHistory-pruned gone e q (d ∷ ds) = go (names (d .ids) gone) refl (inHistory-
 -- ---- the search
 
 -- an identifier that is none of those that are gone
-abbrev Live : List FactId → FactId → Type 0
+abbrev pub Live : List FactId → FactId → Type 0
 Live gone i = isAmong i gone ≡ false
 
 live-names : (gone is : List FactId) → every (Live gone) is → names is gone ≡ false
@@ -102,7 +102,7 @@ unfolding names
 live-names gone [] u = refl
 live-names gone (i ∷ is) u = or-both (isAmong i gone) (names is gone) (u .0) (live-names gone is (u .1))
 
-four-live : (gone is : List FactId) → Live gone nobody → every (Live gone) is → names (four is) gone ≡ false
+pub four-live : (gone is : List FactId) → Live gone nobody → every (Live gone) is → names (four is) gone ≡ false
 unfolding four
 four-live gone is n u = live-names gone (four is) (at 0, (at 1, (at 2, (at 3, tt))))
   where

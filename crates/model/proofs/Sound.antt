@@ -85,11 +85,11 @@ stored-is i (s ∷ ss) = go (sameId (s .id) i) refl (storedFact i ss) (stored-is
     go false q none u = tt
     go false q (some f) u = List·Memᴰ·tail u
 
-stands-other : (active : FactId) (chosen : List FactId) (i : FactId) → mayStand active chosen i ≡ true → sameId i active ≡ false
+pub stands-other : (active : FactId) (chosen : List FactId) (i : FactId) → mayStand active chosen i ≡ true → sameId i active ≡ false
 unfolding mayStand
 stands-other active chosen i e = not-true (sameId i active) (and-left (not (sameId i active)) (not (isAmong i chosen)) e)
 
-stands-anew : (active : FactId) (chosen : List FactId) (i : FactId) → mayStand active chosen i ≡ true → isAmong i chosen ≡ false
+pub stands-anew : (active : FactId) (chosen : List FactId) (i : FactId) → mayStand active chosen i ≡ true → isAmong i chosen ≡ false
 unfolding mayStand
 stands-anew active chosen i e = not-true (isAmong i chosen) (and-right (not (sameId i active)) (not (isAmong i chosen)) e)
 

@@ -1,0 +1,10 @@
+-- What holds of the published semantics and the definition (docs/SEMANTICS.md).
+pub mod Alone
+pub mod Match
+pub mod Found
+pub mod Occurrence
+pub mod Substitutions
+pub mod Following
+pub mod Steps
+pub mod Runs
+pub mod Located

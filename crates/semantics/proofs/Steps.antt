@@ -1,0 +1,336 @@
+-- Every step of the definition is a transition of the refined semantics, on the same stack, store and next identifier, with a history that keeps
+-- every firing: a step that is no firing is Activate, Drop or Default, a firing is Simplify or Propagate with the first instance, Fail is Solve.
+-- Where the run stops with 3, the first instance that is left has a guard with no value. What the search says of all instances is what Default and
+-- `First` ask for.
+use Prim.Native.Nat.{ℕ, _+_, _-_, _≤_, _<_}
+use native.Mathlib.Omega.{arith}
+use mathlib.Core.Path.{_≡_, refl, sym, _∙_, ap, subst}
+use mathlib.Core.Bool.{Bool, true, false}
+use mathlib.Core.Option.{Option, none, some}
+use mathlib.Core.Logic.{_⊎_, inl, inr}
+use mathlib.Core.List.{List, [], _∷_, _++_, map, List·Memᴰ, List·Memᴰ·head, List·Memᴰ·tail, List·Memᴰ·cases-cons, List·Memᴰ·append-cases, List·Memᴰ·eq-of-singleton, Memᴰ·append-left, Memᴰ·append-right}
+use lib.Dec.{leb, ltb}
+use lib.ListN.{length, getElem?}
+use borrow.Author.Tests.{leb-true, leb-false}
+use Rattle.numbers.specs.declared.Truth.{Truth}
+use Rattle.numbers.specs.declared.Truth.the-variants.{True, Undefined as Unknown}
+use Rattle.model.specs.declared.FactId.{FactId}
+use Rattle.model.specs.declared.Symbol.{Symbol}
+use Rattle.model.specs.declared.RuleNumber.{RuleNumber}
+use Rattle.model.specs.declared.Occurrence.{Occurrence}
+use Rattle.model.specs.declared.Fact.{Fact}
+use Rattle.model.specs.declared.Item.{Item}
+use Rattle.model.specs.declared.Item.the-variants.{Waiting, Active, Fail}
+use Rattle.model.specs.declared.Entry.{Entry}
+use Rattle.model.specs.declared.Stored.{Stored}
+use Rattle.model.specs.declared.Binding.{Binding}
+use Rattle.model.specs.declared.HeadPlace.{HeadPlace}
+use Rattle.model.specs.Limits.{mostHeads, storeRoom, stackRoom, historyRoom}
+use Rattle.model.specs.Table.{Rule, Table, heads, ruleAt, places}
+use Rattle.model.specs.Search.{Fired, firedOf, inHistory, Found, nothing, undefinedGuard, applies, firstInstance}
+use Rattle.model.specs.Steps.{State, waiting, start, activeEntry, bodyEntries, gone, without, remembered, activated, advanced, dropped, popIf, isRemoved, fired, Outcome, moves, fires, fails, stops, withinHistory, withinStack, withBody, withFound, atPlace, activate, stepItem}
+use Rattle.model.specs.Keeping.{keptAll, keepFired, keepWithin, keepBody, keepFound, keepPlace, keepItem}
+use Rattle.model.proofs.Every.{every, every-append}
+use Rattle.model.proofs.Lists.{every-mem, map-drop, OptionIs}
+use Rattle.model.proofs.Sound.{idsOf}
+use Rattle.model.proofs.Decoded.{PlaceIn, places-in}
+use Rattle.model.proofs.Places.{places-have}
+use Rattle.semantics.specs.Instances.{Matching, firing}
+use Rattle.semantics.specs.Refined.{Trying, Applies, Fires, Solve}
+use Rattle.semantics.specs.Chosen.{First, Moves, activates, drops, defaults, FiresFirst, simplifies, propagates, Undefined}
+use Rattle.semantics.proofs.Found.{Picked, Verdict}
+use Rattle.semantics.proofs.Occurrence.{index-mem, first-verdict}
+use Rattle.semantics.proofs.Following.{ItemIs, EntryIs, Follows, known-here, known-there, now, after, store-behind, rising-behind, new-whole, Behind, pruned-behind, kept-behind, body-entries, activated-follows, dropped-follows, advanced-follows}
+
+-- a rule has at most four heads
+abbrev pub FewHeads : Table → Type 0
+FewHeads t = every (λ (r : Rule). length (heads r) ≤ mostHeads) (t .rules)
+
+-- the state of the relation: the definition's, with the history T
+abbrev pub seen : State → List Fired → State
+seen st T = record { stack = st .stack; store = st .store; history = T; next = st .next }
+
+-- at the start no firing has been put down
+pub start-follows : (t : Table) (goal : List Fact) → Follows t (start goal) []
+unfolding start
+start-follows t goal = record { rising = omega arith; entries = all goal; keeps = tt; noted = tt; accounted = tt; whole = tt }
+  where
+    all : (goal : List Fact) → every (EntryIs 1) (map waiting goal)
+    all [] = tt
+    all (f ∷ goal) = (refl, all goal)
+
+-- what each outcome of a step comes to
+abbrev pub Taken : Table → State → List Fired → Outcome → Type 0
+Taken t st T (moves next) = (T′ : List Fired) × Follows t next T′ × Moves t (seen st T) (seen next T′)
+Taken t st T (fires next) = (T′ : List Fired) × Follows t next T′ × FiresFirst t (seen st T) (seen next T′)
+Taken t st T fails = (σ : State) × Solve t (seen st T) σ
+Taken t st T (stops n p) = (3 ≤ n) × (n ≡ 3 → Undefined t (seen st T))
+
+module _ (t : Table) (few : FewHeads t) (st : State) (T : List Fired) (k : Follows t st T) (e : Entry) (es : List Entry) (q : st .stack ≡ e ∷ es) where
+  entries : every (EntryIs (st .next)) (e ∷ es)
+  entries = subst (every (EntryIs (st .next))) q (k .entries)
+
+  -- ---- Activate
+
+  activate-taken : (f : Fact) → e .item ≡ Waiting f → (x : Bool) → Taken t st T (activate t st e es f x)
+  unfolding activated
+  activate-taken f w true =
+      let s : e .symbol ≡ f .symbol = subst (ItemIs (st .next) (e .symbol)) w (entries .0) in (
+        T,
+        activated-follows t st T k e es entries f,
+        activates (record {
+          c = f;
+          under = es;
+          top = q ∙ ap (λ (x : Entry). x ∷ es) (λ i. record { symbol = s i; item = w i });
+          stack = ap (λ (x : Symbol). activeEntry x (record { 0 = st .next }) 1 ∷ es) s;
+          store = (λ x m. turn x (List·Memᴰ·append-cases (st .store) m), λ x m. back x (List·Memᴰ·cases-cons m));
+          history = refl;
+          next = refl;
+        }),
+      )
+    where
+      turn : (x : Stored) → List·Memᴰ x (st .store) ⊎ List·Memᴰ x (record { id = record { 0 = st .next }; fact = f } ∷ []) → List·Memᴰ x (record { id = record { 0 = st .next }; fact = f } ∷ st .store)
+      turn x (inl m) = List·Memᴰ·tail m
+      turn x (inr m) = List·Memᴰ·head (List·Memᴰ·eq-of-singleton m)
+
+      back : (x : Stored) → (x ≡ record { id = record { 0 = st .next }; fact = f }) ⊎ List·Memᴰ x (st .store) → List·Memᴰ x (st .store ++ (record { id = record { 0 = st .next }; fact = f } ∷ []))
+      back x (inl m) = Memᴰ·append-right (st .store) (List·Memᴰ·head m)
+      back x (inr m) = Memᴰ·append-left (record { id = record { 0 = st .next }; fact = f } ∷ []) m
+  activate-taken f w false = (omega arith, λ x. absurd (omega (arith, x)))
+
+  -- ---- an active fact on top
+
+  module _ (i : FactId) (j : ℕ) (top : st .stack ≡ activeEntry (e .symbol) i j ∷ es) (given : i .0 < st .next) where
+    -- Drop
+    drop-taken : getElem? (places t (e .symbol)) (j - 1) ≡ none → Taken t st T (moves (dropped st es))
+    unfolding dropped
+    drop-taken o = (
+      T,
+      dropped-follows t st T k e es entries,
+      drops (record { symbol = e .symbol; id = i; j = j; top = top; absent = o; store = refl; history = refl; next = refl }),
+    )
+
+    module _ (p : HeadPlace) (o : getElem? (places t (e .symbol)) (j - 1) ≡ some p) where
+      abbrev r : Rule
+      r = ruleAt t (p .rule)
+
+      abbrev tried : Trying t (seen st T .stack)
+      tried = record { symbol = e .symbol; id = i; j = j; under = es; place = p; top = top; occurs = o }
+
+      few-here : length (heads r) ≤ mostHeads
+      few-here = every-mem (λ (x : HeadPlace). length (heads (ruleAt t (x .rule))) ≤ mostHeads) (places t (e .symbol))
+          (places-have t (e .symbol) (λ (x : Rule). length (heads x) ≤ mostHeads) few) p (index-mem (places t (e .symbol)) (j - 1) p o)
+
+      inside : p .head < length (heads r)
+      inside = every-mem (PlaceIn t (e .symbol)) (places t (e .symbol)) (places-in t (e .symbol)) p (index-mem (places t (e .symbol)) (j - 1) p o) .headIn
+
+      abbrev Way : List Stored → Binding → Type 0
+      Way = Matching (st .store) p r i
+
+      -- what is not in T is not in the definition's history, and the other way round
+      unknown-here : (facts : List Stored) (θ : Binding) → Way facts θ → (List·Memᴰ (firing p facts) T → ⊥) → inHistory (firedOf (p .rule) (idsOf facts)) (st .history) ≡ false
+      unknown-here facts θ m n = go (inHistory (firedOf (p .rule) (idsOf facts)) (st .history)) refl
+        where
+          go : (x : Bool) → inHistory (firedOf (p .rule) (idsOf facts)) (st .history) ≡ x → inHistory (firedOf (p .rule) (idsOf facts)) (st .history) ≡ false
+          go true h = absurd (n (known-there t st T k p i facts θ m few-here h))
+          go false h = h
+
+      unknown-there : (facts : List Stored) (θ : Binding) → Way facts θ → inHistory (firedOf (p .rule) (idsOf facts)) (st .history) ≡ false → List·Memᴰ (firing p facts) T → ⊥
+      unknown-there facts θ m h n = let g = known-here t st T k p i facts θ m n in let w : _≡_ {A = ℕ} 0 1 = cc in omega arith
+
+      -- what the search picks is the first
+      picked-first : (g : Truth) (facts : List Stored) (θ : Binding) → Picked (st .history) p r Way [] g facts θ → First t (seen st T) tried g facts θ
+      picked-first g facts θ u = record {
+        matching = u .way;
+        fresh = unknown-there facts θ (u .way) (u .fresh);
+        guard = u .guard;
+        before = λ facts′ θ′ m b n. u .first facts′ θ′ m b (unknown-here facts′ θ′ m n);
+      }
+
+      -- what the search says here
+      verdict : Verdict (st .history) p r Way [] (firstInstance (st .store) (st .history) p r i)
+      verdict = first-verdict (st .store) (st .history) p r (st .next) (k .rising) inside i
+
+      none-applies : Verdict (st .history) p r Way [] nothing → (facts : List Stored) (θ : Binding) → Applies t (st .store) T p i facts θ → ⊥
+      none-applies u facts θ a =
+          let f = u facts θ (a .enabled .matching) (unknown-here facts θ (a .enabled .matching) (a .fresh)) in
+          let g = a .enabled .guard in
+          let w : _≡_ {A = ℕ} 0 1 = cc in
+          omega arith
+
+      -- where the definition takes Default, no instance applies
+      pub default-none : firstInstance (st .store) (st .history) p r i ≡ nothing → (facts : List Stored) (θ : Binding) → Applies t (st .store) T p i facts θ → ⊥
+      default-none e = none-applies (subst (Verdict (st .history) p r Way []) e verdict)
+
+      -- where it stops with 3, the first instance that is left has a guard with no value
+      stopped : Verdict (st .history) p r Way [] undefinedGuard → Undefined t (seen st T)
+      stopped u = record { tried = tried; facts = u .0; θ = u .1; first = picked-first Unknown (u .0) (u .1) (u .2) }
+
+      pub stopped-first : firstInstance (st .store) (st .history) p r i ≡ undefinedGuard → Undefined t (seen st T)
+      stopped-first e = stopped (subst (Verdict (st .history) p r Way []) e verdict)
+
+      -- Default
+      default-taken : Verdict (st .history) p r Way [] nothing → Taken t st T (moves (advanced st e es i j))
+      unfolding advanced
+      default-taken u = (
+        T,
+        advanced-follows t st T k e es entries i j given,
+        defaults (record { tried = tried; none = none-applies u; stack = refl; store = refl; history = refl; next = refl }),
+      )
+
+      -- Simplify and Propagate
+      module _ (facts : List Stored) (b : Binding) (u : Picked (st .history) p r Way [] True facts b) (C : List Entry) (body : bodyEntries b (r .body) ≡ some C) where
+        C-entries : every (EntryIs (st .next)) C
+        C-entries = subst (OptionIs (every (EntryIs (st .next)))) body (body-entries (st .next) b (r .body))
+
+        first : First t (seen st T) tried True facts b
+        first = picked-first True facts b u
+
+        applied : Applies t (st .store) T p i facts b
+        applied = record { enabled = record { matching = u .way; guard = u .guard }; fresh = first .fresh }
+
+        fire : Fires t (st .store) (now t st T k p i facts b (u .way)) p facts b C
+        fire = record { body = body; store = store-behind t st T k p i facts b (u .way) }
+
+        module _ (history : List Fired) (v : Behind t st T k p i facts b (u .way) history) where
+          abbrev behind : List Entry → State
+          behind stack = record { stack = stack; store = now t st T k p i facts b (u .way); history = history; next = st .next }
+
+          behind-follows : (stack : List Entry) → every (EntryIs (st .next)) stack → Follows t (behind stack) (firing p facts ∷ T)
+          behind-follows stack n = record {
+            rising = rising-behind t st T k p i facts b (u .way);
+            entries = n;
+            keeps = v .keeps;
+            noted = v .noted;
+            accounted = v .accounted;
+            whole = (new-whole t st T k p i facts b (u .way), k .whole);
+          }
+
+          fires-taken : (x : Bool) → isRemoved r (p .head) ≡ x → Taken t st T (fires (behind (C ++ popIf x e es)))
+          unfolding isRemoved
+          fires-taken true x = (
+            firing p facts ∷ T,
+            behind-follows (C ++ es) (every-append (EntryIs (st .next)) C es C-entries (entries .1)),
+            simplifies (record {
+              tried = tried;
+              removed = leb-true (length (r .kept)) (p .head) x;
+              facts = facts;
+              θ = b;
+              C = C;
+              applies = applied;
+              fires = fire;
+              stack = refl;
+              history = refl;
+              next = refl;
+            }) first,
+          )
+          fires-taken false x = (
+            firing p facts ∷ T,
+            behind-follows (C ++ (e ∷ es)) (every-append (EntryIs (st .next)) C (e ∷ es) C-entries entries),
+            propagates (record {
+              tried = tried;
+              kept = leb-false (length (r .kept)) (p .head) x;
+              facts = facts;
+              θ = b;
+              C = C;
+              applies = applied;
+              fires = fire;
+              stack = ap (λ (l : List Entry). C ++ l) (sym q ∙ top);
+              history = refl;
+              next = refl;
+            }) first,
+          )
+
+        -- the definition takes the identifiers of the removed heads from those of all heads
+        fired-taken : Taken t st T (fires (fired st e es p r (idsOf facts) C))
+        unfolding fired gone
+        fired-taken =
+            subst
+            (λ (g : List FactId). Taken t st T (fires (record {
+              stack = C ++ popIf (isRemoved r (p .head)) e es;
+              store = without g (st .store);
+              history = remembered (r .removed) (firedOf (p .rule) (idsOf facts)) g (st .history);
+              next = st .next;
+            })))
+            (map-drop (λ (s : Stored). s .id) (length (r .kept)) facts) (fires-taken (after t st T k p i facts b (u .way) (r .removed)) (pruned-behind t st T k p i facts b (u .way) (r .removed) refl) (isRemoved r (p .head)) refl)
+
+        kept-taken : Taken t st T (fires (keepFired st e es p r (idsOf facts) C))
+        unfolding keepFired gone
+        kept-taken =
+            let all : List Fired = keptAll (r .removed) (firedOf (p .rule) (idsOf facts)) (st .history) in
+            subst
+            (λ (g : List FactId). Taken t st T (fires (record { stack = C ++ popIf (isRemoved r (p .head)) e es; store = without g (st .store); history = all; next = st .next })))
+            (map-drop (λ (s : Stored). s .id) (length (r .kept)) facts) (fires-taken all (kept-behind t st T k p i facts b (u .way) (r .removed) refl) (isRemoved r (p .head)) refl)
+
+      within-history : (x : Bool) (n : RuleNumber) (s : State) → Taken t st T (fires s) → Taken t st T (withinHistory x n s)
+      within-history true n s u = u
+      within-history false n s u = (omega arith, λ x. absurd (omega (arith, x)))
+
+      within-stack : (x : Bool) (n : RuleNumber) (s : State) → Taken t st T (fires s) → Taken t st T (withinStack x n s)
+      within-stack true n s u = within-history (leb (length (s .history)) historyRoom) n s u
+      within-stack false n s u = (omega arith, λ x. absurd (omega (arith, x)))
+
+      body-taken : (facts : List Stored) (b : Binding) → Picked (st .history) p r Way [] True facts b → (c : Option (List Entry)) → bodyEntries b (r .body) ≡ c
+          → Taken t st T (withBody t st e es p (idsOf facts) c)
+      body-taken facts b u none h = (omega arith, λ x. absurd (omega (arith, x)))
+      body-taken facts b u (some C) h =
+          let s : State = fired st e es p r (idsOf facts) C in
+          within-stack (leb (length (s .stack)) stackRoom) (p .rule) s (fired-taken facts b u C h)
+
+      found-taken : (f : Found) → Verdict (st .history) p r Way [] f → Taken t st T (withFound t st e es i j p f)
+      found-taken nothing u = default-taken u
+      found-taken undefinedGuard u = (omega arith, λ x. stopped u)
+      found-taken (applies chosen b) u =
+          subst (λ (is : List FactId). Taken t st T (withBody t st e es p is (bodyEntries b (r .body)))) (sym (u .2)) (body-taken (u .0) b (u .1) (bodyEntries b (r .body)) refl)
+
+      -- the same with a history that keeps all
+      keep-within : (x : Bool) (n : RuleNumber) (s : State) → Taken t st T (fires s) → Taken t st T (keepWithin x n s)
+      keep-within true n s u = u
+      keep-within false n s u = (omega arith, λ x. absurd (omega (arith, x)))
+
+      keep-body : (facts : List Stored) (b : Binding) → Picked (st .history) p r Way [] True facts b → (c : Option (List Entry)) → bodyEntries b (r .body) ≡ c
+          → Taken t st T (keepBody t st e es p (idsOf facts) c)
+      keep-body facts b u none h = (omega arith, λ x. absurd (omega (arith, x)))
+      keep-body facts b u (some C) h =
+          let s : State = keepFired st e es p r (idsOf facts) C in
+          keep-within (leb (length (s .stack)) stackRoom) (p .rule) s (kept-taken facts b u C h)
+
+      keep-found : (f : Found) → Verdict (st .history) p r Way [] f → Taken t st T (keepFound t st e es i j p f)
+      keep-found nothing u = default-taken u
+      keep-found undefinedGuard u = (omega arith, λ x. stopped u)
+      keep-found (applies chosen b) u =
+          subst (λ (is : List FactId). Taken t st T (keepBody t st e es p is (bodyEntries b (r .body)))) (sym (u .2)) (keep-body (u .0) b (u .1) (bodyEntries b (r .body)) refl)
+
+    place-taken : (o : Option HeadPlace) → getElem? (places t (e .symbol)) (j - 1) ≡ o → Taken t st T (atPlace t st e es i j o)
+    place-taken none o = drop-taken o
+    place-taken (some p) o =
+        found-taken p o (firstInstance (st .store) (st .history) p (ruleAt t (p .rule)) i) (verdict p o)
+
+    keep-place : (o : Option HeadPlace) → getElem? (places t (e .symbol)) (j - 1) ≡ o → Taken t st T (keepPlace t st e es i j o)
+    keep-place none o = drop-taken o
+    keep-place (some p) o = keep-found p o (firstInstance (st .store) (st .history) p (ruleAt t (p .rule)) i) (verdict p o)
+
+  -- ---- the top entry decides
+
+  fail-taken : e .item ≡ Fail → Taken t st T fails
+  fail-taken w = (record { stack = es; store = st .store; history = T; next = st .next }, record { c = e; top = q; builtin = w; store = refl; history = refl; next = refl })
+
+  module _ (i : FactId) (j : Occurrence) (w : e .item ≡ Active i j) where
+    active-top : st .stack ≡ activeEntry (e .symbol) i (j .0) ∷ es
+    active-top = q ∙ ap (λ (x : Entry). x ∷ es) (λ n. record { symbol = e .symbol; item = w n })
+
+    active-given : i .0 < st .next
+    active-given = subst (ItemIs (st .next) (e .symbol)) w (entries .0)
+
+  pub step-taken : (it : Item) → e .item ≡ it → Taken t st T (stepItem t st e es it)
+  unfolding stepItem
+  step-taken (Waiting f) w = activate-taken f w (ltb (length (st .store)) storeRoom)
+  step-taken (Active i j) w = place-taken i (j .0) (active-top i j w) (active-given i j w) (getElem? (places t (e .symbol)) (j .0 - 1)) refl
+  step-taken Fail w = fail-taken w
+
+  -- every step of the run whose history keeps all is a transition too
+  pub keep-taken : (it : Item) → e .item ≡ it → Taken t st T (keepItem t st e es it)
+  unfolding keepItem
+  keep-taken (Waiting f) w = activate-taken f w (ltb (length (st .store)) storeRoom)
+  keep-taken (Active i j) w = keep-place i (j .0) (active-top i j w) (active-given i j w) (getElem? (places t (e .symbol)) (j .0 - 1)) refl
+  keep-taken Fail w = fail-taken w

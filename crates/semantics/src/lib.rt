@@ -1,0 +1,1 @@
+// The published semantics are specs/ and proofs/ alone: this crate has no code.
