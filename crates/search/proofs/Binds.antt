@@ -1,0 +1,105 @@
+-- What matching comes to, slot by slot: the definition's clauses, in the form in which the code's tests and stores give them.
+use mathlib.Core.Path.{_≡_, refl, sym, ap, _∙_}
+use mathlib.Core.Bool.{Bool, true, false, not}
+use mathlib.Core.Option.{Option, none, some}
+use mathlib.Core.List.{List, [], _∷_}
+use Prim.Native.Nat.{ℕ, _<_, _≤_}
+use native.Mathlib.Omega.{arith}
+use lib.Dec.{eqb}
+use lib.IntN.{ℤ, pos}
+use lib.ListN.{getD, set, length}
+use borrow.Author.Tests.{eq-eqb, ne-eqb, lt-ltb, le-ltb, not-true, not-false}
+use Rattle.numbers.specs.Numbers.{equal}
+use Rattle.model.specs.declared.Slot.{Slot}
+use Rattle.model.specs.declared.Slot.the-variants.{Unused, Constant, Variable, Bad}
+use Rattle.model.specs.declared.Fact.{Fact}
+use Rattle.model.specs.declared.Binding.{Binding}
+use Rattle.model.specs.Matching.{boundIf, withVariable, matchVariable, matchSlot, andSlot, matchSlots, arguments, matchHead}
+use Rattle.model.specs.Table.{Head, sameSymbol}
+use Rattle.search.specs.declared.Pattern.{Pattern}
+use Rattle.search.specs.Views.{bindingOf, boundAs, patternOf}
+
+same-answer : (x : Bool) (values : List ℤ) (bound : List Bool) → boundAs x values bound ≡ boundIf x (bindingOf values bound)
+unfolding boundAs
+same-answer true values bound = refl
+same-answer false values bound = refl
+
+module _ (v : ℕ) (a : ℤ) (values : List ℤ) (bound : List Bool) where
+  pub past-all : 16 ≤ v → (z : List ℤ) (y : List Bool) → boundAs false z y ≡ matchVariable (bindingOf values bound) v a
+  unfolding boundAs matchVariable
+  past-all h z y = rw (le-ltb v 16 h)
+
+  pub agrees : v < 16 → getD bound v false ≡ true → {r : Bool} {z y : ℤ} → r ≡ equal z y → z ≡ getD values v (pos 0) → y ≡ a
+      → boundAs r values bound ≡ matchVariable (bindingOf values bound) v a
+  unfolding matchVariable
+  agrees l h {r} e q w = rw (lt-ltb v 16 l, h, ← q, ← w, ← e) (same-answer r values bound)
+
+  pub binds : v < 16 → getD bound v false ≡ false → {z : ℤ} → z ≡ a → boundAs true (set values v z) (set bound v true) ≡ matchVariable (bindingOf values bound) v a
+  unfolding boundAs matchVariable withVariable
+  binds l h e = rw (lt-ltb v 16 l, h, e)
+
+-- ---- a slot
+
+module _ {s : Slot} (a : ℤ) (values : List ℤ) (bound : List Bool) where
+  pub slot-unused : s ≡ Unused → boundAs true values bound ≡ matchSlot s a (bindingOf values bound)
+  unfolding boundAs matchSlot
+  slot-unused e = rw e
+
+  pub slot-constant : {c : ℤ} → s ≡ Constant c → {r : Bool} {z y : ℤ} → r ≡ equal z y → z ≡ c → y ≡ a → boundAs r values bound ≡ matchSlot s a (bindingOf values bound)
+  unfolding matchSlot
+  slot-constant e {r} q z y = rw (e, ← z, ← y, ← q) (same-answer r values bound)
+
+  pub slot-variable : {v : ℕ} → s ≡ Variable v → {y : ℤ} {m : Option Binding} → m ≡ matchVariable (bindingOf values bound) v y → y ≡ a → m ≡ matchSlot s a (bindingOf values bound)
+  unfolding matchSlot
+  slot-variable e q y = rw (e, ← y) q
+
+  pub slot-bad : s ≡ Bad → boundAs false values bound ≡ matchSlot s a (bindingOf values bound)
+  unfolding boundAs matchSlot
+  slot-bad e = rw e
+
+-- ---- a head: its slots in turn, as long as each matches
+
+-- the binding after the slots so far
+matched : (ok : Bool) (values : List ℤ) (bound : List Bool) {m : Option Binding} → boundAs ok values bound ≡ m → not ok ≡ false → m ≡ some (bindingOf values bound)
+unfolding boundAs
+matched ok values bound e t = sym e ∙ rw (not-false ok t) refl
+
+missed : (ok : Bool) (values : List ℤ) (bound : List Bool) {m : Option Binding} → boundAs ok values bound ≡ m → not ok ≡ true → m ≡ none
+unfolding boundAs
+missed ok values bound e t = sym e ∙ rw (not-true ok t) refl
+
+module _ (h : Pattern) (f : Fact) (b : Binding) where
+  other-symbol : (h .symbol ≡ f .symbol .0 → ⊥) → matchHead (patternOf h) f b ≡ none
+  unfolding matchHead patternOf
+  other-symbol d = rw (ne-eqb _ _ d)
+
+  same-symbol : h .symbol ≡ f .symbol .0
+      → matchHead (patternOf h) f b ≡ andSlot (h .s3) (f .a3) (andSlot (h .s2) (f .a2) (andSlot (h .s1) (f .a1) (matchSlot (h .s0) (f .a0) b)))
+  unfolding matchHead patternOf matchSlots andSlot
+  same-symbol e = rw (eq-eqb _ _ e)
+
+  pub head-other : (h .symbol ≡ f .symbol .0 → ⊥) → (z : List ℤ) (y : List Bool) → boundAs false z y ≡ matchHead (patternOf h) f b
+  unfolding boundAs
+  head-other d z y = sym (other-symbol d)
+
+  module _ (e : h .symbol ≡ f .symbol .0) (k0 : Bool) (z0 : List ℤ) (y0 : List Bool) (a0 : ℤ) (m0 : boundAs k0 z0 y0 ≡ matchSlot (h .s0) a0 b) (e0 : a0 ≡ f .a0) where
+    after-0 : not k0 ≡ false → matchSlot (h .s0) (f .a0) b ≡ some (bindingOf z0 y0)
+    after-0 t = ap (λ (x : ℤ). matchSlot (h .s0) x b) (sym e0) ∙ matched k0 z0 y0 m0 t
+
+    pub head-miss-0 : not k0 ≡ true → (z : List ℤ) (y : List Bool) → boundAs false z y ≡ matchHead (patternOf h) f b
+    unfolding boundAs andSlot
+    head-miss-0 t z y = rw (same-symbol e, ← e0, missed k0 z0 y0 m0 t)
+
+    module _ (t0 : not k0 ≡ false) (k1 : Bool) (z1 : List ℤ) (y1 : List Bool) (a1 : ℤ) (m1 : boundAs k1 z1 y1 ≡ matchSlot (h .s1) a1 (bindingOf z0 y0)) (e1 : a1 ≡ f .a1) where
+      pub head-miss-1 : not k1 ≡ true → (z : List ℤ) (y : List Bool) → boundAs false z y ≡ matchHead (patternOf h) f b
+      unfolding boundAs andSlot
+      head-miss-1 t z y = rw (same-symbol e, after-0 t0, ← e1, missed k1 z1 y1 m1 t)
+
+      module _ (t1 : not k1 ≡ false) (k2 : Bool) (z2 : List ℤ) (y2 : List Bool) (a2 : ℤ) (m2 : boundAs k2 z2 y2 ≡ matchSlot (h .s2) a2 (bindingOf z1 y1)) (e2 : a2 ≡ f .a2) where
+        pub head-miss-2 : not k2 ≡ true → (z : List ℤ) (y : List Bool) → boundAs false z y ≡ matchHead (patternOf h) f b
+        unfolding boundAs andSlot
+        head-miss-2 t z y = rw (same-symbol e, after-0 t0, ← e1, matched k1 z1 y1 m1 t1, ← e2, missed k2 z2 y2 m2 t)
+
+        pub head-last : not k2 ≡ false → {a3 : ℤ} {m : Option Binding} → m ≡ matchSlot (h .s3) a3 (bindingOf z2 y2) → a3 ≡ f .a3 → m ≡ matchHead (patternOf h) f b
+        unfolding andSlot
+        head-last t2 m3 e3 = rw (same-symbol e, after-0 t0, ← e1, matched k1 z1 y1 m1 t1, ← e2, matched k2 z2 y2 m2 t2, ← e3) m3

@@ -1,0 +1,5 @@
+pub mod Deciding
+pub mod Binds
+pub mod Compacting
+pub mod Remembered
+pub mod Seeking

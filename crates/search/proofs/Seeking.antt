@@ -1,0 +1,420 @@
+-- Laws of the search on plain values: a row, a complete match, and one turn of the loop over the rows. What is tried from row i on
+-- equals the whole, so that the first answer that is not "nothing" is the definition's.
+use mathlib.Core.Path.{_≡_, refl, sym, ap, subst, _∙_}
+use mathlib.Core.Bool.{Bool, true, false, not, _&&_}
+use mathlib.Core.Option.{Option, none, some}
+use mathlib.Core.List.{List, [], _∷_, _++_, map}
+use Prim.Native.Nat.{ℕ, zero, suc, _+_, _*_, _-_, _<_, _≤_}
+use native.Mathlib.Nat.{mul-le-mul-left}
+use native.Mathlib.Omega.{arith}
+use native.Mathlib.Numerals.{add-one}
+use lib.Dec.{eqb}
+use lib.IntN.{ℤ, pos}
+use lib.ListN.{getD, set, take, drop, length, length-set, length-map}
+use lib.Seq.{take-suc-set, length-take-le}
+use borrow.Author.Tests.{eq-eqb, ne-eqb}
+use Rattle.numbers.specs.declared.Truth.{Truth}
+use Rattle.numbers.specs.declared.Truth.the-variants.{True, False, Undefined as Unknown}
+use Rattle.model.specs.declared.FactId.{FactId}
+use Rattle.model.specs.declared.Fact.{Fact}
+use Rattle.model.specs.declared.Stored.{Stored}
+use Rattle.model.specs.declared.Binding.{Binding}
+use Rattle.model.specs.declared.HeadPlace.{HeadPlace}
+use Rattle.model.specs.declared.RuleShape.{RuleShape}
+use Rattle.model.specs.Guards.{guardValue, unbound}
+use Rattle.model.specs.Matching.{matchHead}
+use Rattle.model.specs.Table.{Head, Rule, heads, headAt, headsFrom, headsStart, guardsFrom, guardsStart, ruleOf}
+use Rattle.model.specs.Search.{Fired, Found, nothing, undefinedGuard, applies, isAmong, mayStand, firedOf, inHistory, unlessKnown, judged, orElse, firstOf, andThen, complete, candidate, search, storedFact, noHead, fromActive, firstInstance}
+use Rattle.model.proofs.Decoded.{heads-none, heads-first, heads-at, rule-guards, rule-heads}
+use Rattle.search.specs.declared.Pattern.{Pattern}
+use Rattle.search.specs.declared.Quest.{Quest}
+use Rattle.search.specs.declared.Lookup.{Lookup}
+use Rattle.search.specs.declared.Lookup.the-variants.{Here, Gone}
+use Rattle.search.specs.declared.Outcome.{Outcome}
+use Rattle.search.specs.declared.Outcome.the-variants.{Applies, Nothing, UndefinedGuard}
+use Rattle.search.specs.Views.{factId, idsOf, bindingOf, boundAs, patternOf, rowFact, rowAt, rowsFrom, firedAt, pastOf, candidateOf, foundAs, lookupOf, soughtOf, Held, Ready, Sought, firstOfQuest, Posed, Answered}
+
+-- ---- a row
+
+pub row-is : (symbols : List ℕ) (args : List ℤ) (i : ℕ) {w x y z : ℤ} → w ≡ getD args (4 * i) (pos 0) → x ≡ getD args (4 * i + 1) (pos 0) → y ≡ getD args (4 * i + 2) (pos 0) → z ≡ getD args (4 * i + 3) (pos 0)
+    → _≡_ {A = Fact} (record { symbol = record { 0 = getD symbols i 0 }; a0 = w; a1 = x; a2 = y; a3 = z }) (rowFact symbols args i)
+unfolding rowFact
+row-is symbols args i w x y z = rw (w, x, y, z)
+
+module _ (active : FactId) (h : Head) (chosen : List FactId) (b : Binding) (symbols ids : List ℕ) (args : List ℤ) (i : ℕ) where
+  pub row-active : getD ids i 0 ≡ active .0 → (z : List ℤ) (y : List Bool) → boundAs false z y ≡ candidateOf active h chosen b (rowAt symbols ids args i)
+  unfolding boundAs candidateOf mayStand rowAt
+  row-active e z y = rw (eq-eqb _ _ e, candidateOf)
+
+  module _ (d : getD ids i 0 ≡ active .0 → ⊥) {among : Bool} (a : among ≡ isAmong (factId (getD ids i 0)) chosen) where
+    pub row-chosen : among ≡ true → (z : List ℤ) (y : List Bool) → boundAs false z y ≡ candidateOf active h chosen b (rowAt symbols ids args i)
+    unfolding boundAs candidateOf mayStand rowAt
+    row-chosen t z y = rw (ne-eqb _ _ d, ← a, t, candidateOf)
+
+    pub row-matches : among ≡ false → {f : Fact} {m : Option Binding} → m ≡ matchHead h f b → f ≡ rowFact symbols args i → m ≡ candidateOf active h chosen b (rowAt symbols ids args i)
+    unfolding candidateOf mayStand rowAt
+    row-matches t m f = rw (ne-eqb _ _ d, ← a, t, ← f, candidateOf) m
+
+-- ---- a complete match
+
+module _ (past : List Fired) (p : HeadPlace) (t : List ℕ) (shape : RuleShape) (active : FactId) (chosen : List FactId) (b : Binding) (e : List ℕ) (ee : firedAt e ≡ firedOf (p .rule) chosen) {seen : Bool} (s : seen ≡ inHistory (firedAt e) past) where
+  pub seen-before : seen ≡ true → foundAs Nothing chosen b ≡ complete [] past p (ruleOf t shape) active chosen b
+  unfolding foundAs complete
+  seen-before h = rw (← ee, ← s, h)
+
+  module _ (f : seen ≡ false) {o : Truth} (g : o ≡ guardValue b (guardsFrom t (guardsStart shape) (shape .guards))) where
+    judging : complete [] past p (ruleOf t shape) active chosen b ≡ judged o chosen b
+    unfolding complete
+    judging = rw (← ee, ← s, f, rule-guards t shape, ← g)
+
+    pub guard-holds : o ≡ True → foundAs Applies chosen b ≡ complete [] past p (ruleOf t shape) active chosen b
+    unfolding foundAs
+    guard-holds h = rw (judging, h)
+
+    pub guard-fails : o ≡ False → foundAs Nothing chosen b ≡ complete [] past p (ruleOf t shape) active chosen b
+    unfolding foundAs
+    guard-fails h = rw (judging, h)
+
+    pub guard-stuck : o ≡ Unknown → foundAs UndefinedGuard chosen b ≡ complete [] past p (ruleOf t shape) active chosen b
+    unfolding foundAs
+    guard-stuck h = rw (judging, h)
+
+-- ---- the chosen ones
+
+pub chosen-more : (chosen : List ℕ) (k x : ℕ) → length chosen ≡ 4 → k < 4 → idsOf (k + 1) (set chosen k x) ≡ idsOf k chosen ++ (factId x ∷ [])
+unfolding idsOf
+chosen-more chosen k x l h =
+    let w : k < length chosen = omega arith in
+    ap (map factId) (ap (λ (n : ℕ). take n (set chosen k x)) (add-one k) ∙ take-suc-set chosen k x w) ∙ map-snoc (take k chosen) x
+  where
+    map-snoc : (xs : List ℕ) (y : ℕ) → map factId (xs ++ (y ∷ [])) ≡ map factId xs ++ (factId y ∷ [])
+    map-snoc [] y = refl
+    map-snoc (z ∷ xs) y = ap (λ (l : List FactId). factId z ∷ l) (map-snoc xs y)
+
+chosen-length : (chosen : List ℕ) (k : ℕ) → length chosen ≡ 4 → k ≤ 4 → length (idsOf k chosen) ≡ k
+unfolding idsOf
+chosen-length chosen k l h = length-map (take k chosen) factId ∙ length-take-le k chosen (omega arith)
+
+take-set : (l : List ℕ) (k x : ℕ) → take k (set l k x) ≡ take k l
+take-set l zero x = refl
+take-set [] (suc k) x = refl
+take-set (y ∷ l) (suc k) x = ap (λ (m : List ℕ). y ∷ m) (take-set l k x)
+
+take-less : (l m : List ℕ) (k : ℕ) → take (suc k) l ≡ take (suc k) m → take k l ≡ take k m
+take-less l m k e = sym (shorter l k) ∙ ap (take k) e ∙ shorter m k
+  where
+    shorter : (l : List ℕ) (k : ℕ) → take k (take (suc k) l) ≡ take k l
+    shorter l zero = refl
+    shorter [] (suc k) = refl
+    shorter (x ∷ l) (suc k) = ap (λ (m : List ℕ). x ∷ m) (shorter l k)
+
+-- the ones before k are as they were, after a store at k and a search that keeps the ones before k + 1
+pub kept-before : (chosen₀ chosen after : List ℕ) (k x : ℕ) → take (k + 1) after ≡ take (k + 1) (set chosen k x) → take k chosen ≡ take k chosen₀ → take k after ≡ take k chosen₀
+kept-before chosen₀ chosen after k x e w = take-less after (set chosen k x) k (rw (add-one k) at e) ∙ take-set chosen k x ∙ w
+
+other-head : (h : Head) (f : Fact) (b : Binding) → (h .symbol .0 ≡ f .symbol .0 → ⊥) → matchHead h f b ≡ none
+unfolding matchHead
+other-head h f b d = rw (ne-eqb _ _ d)
+
+-- ---- the search
+
+pub complete-any : (store : List Stored) (past : List Fired) (p : HeadPlace) (r : Rule) (active : FactId) (chosen : List FactId) (b : Binding) → complete [] past p r active chosen b ≡ complete store past p r active chosen b
+unfolding complete
+complete-any store past p r active chosen b = refl
+
+candidate-is : (store : List Stored) (past : List Fired) (p : HeadPlace) (r : Rule) (active : FactId) (h : Head) (chosen : List FactId) (b : Binding) (s : Stored) → candidate store past p r active h chosen b s ≡ candidateOf active h chosen b s
+unfolding candidate candidateOf
+candidate-is store past p r active h chosen b s = refl
+
+module _ (t : List ℕ) (q : Quest) (past : List (List ℕ)) (symbols ids : List ℕ) (args : List ℤ) (p left k : ℕ) (chosen₀ : List ℕ) (b : Binding) where
+  -- no head is left: a complete match
+  pub none-left : left ≡ 0 → {r : Outcome} → foundAs r (idsOf k chosen₀) b ≡ complete [] (pastOf (q .noted) past) (q .place) (ruleOf t (q .shape)) (q .active) (idsOf k chosen₀) b
+      → Sought (soughtOf t q past symbols ids args p left (idsOf k chosen₀) b) r (k + left) k chosen₀ chosen₀ b
+  unfolding soughtOf search
+  none-left z {r} e =
+      let same : k + left ≡ k = omega arith in
+      record {
+        answer = ap (λ (n : ℕ). foundAs r (idsOf n chosen₀) b) same ∙ e ∙ rw (z, heads-none t p) (complete-any _ _ _ _ _ _ _);
+        before = refl;
+        long = refl;
+      }
+
+  module _ (whole : length chosen₀ ≡ 4) (few : k + left ≤ 4) (some : left ≡ 0 → ⊥) where
+    heads-are : headsFrom t p left ≡ headAt t p ∷ headsFrom t (p + 22) (left - 1)
+    heads-are = heads-first t p left (omega arith)
+
+    chosen-count : eqb (length (idsOf k chosen₀)) (q .place .head) ≡ eqb k (q .place .head)
+    chosen-count = ap (λ (n : ℕ). eqb n (q .place .head)) (chosen-length chosen₀ k whole (omega arith))
+
+    -- the active fact stands at its place
+    pub at-active : k ≡ q .place .head → {after : List ℕ} {r : Outcome} {b′ : Binding} {a : ℕ} → a ≡ q .active .0
+        → Sought (soughtOf t q past symbols ids args (p + 22) (left - 1) (idsOf (k + 1) (set chosen₀ k a)) b) r (k + 1 + (left - 1)) (k + 1) (set chosen₀ k a) after b′
+        → Sought (soughtOf t q past symbols ids args p left (idsOf k chosen₀) b) r (k + left) k chosen₀ after b′
+    unfolding soughtOf search
+    at-active e {after} {r} {b′} {a} ea s =
+        let same : k + left ≡ k + 1 + (left - 1) = omega arith in
+        record {
+          answer =
+              ap (λ (n : ℕ). foundAs r (idsOf n after) b′) same ∙ s .answer
+              ∙ ap (λ (l : List FactId). soughtOf t q past symbols ids args (p + 22) (left - 1) l b) (chosen-more chosen₀ k a whole (omega arith) ∙ ap (λ (n : ℕ). idsOf k chosen₀ ++ (factId n ∷ [])) ea)
+              ∙ rw (heads-are, chosen-count, eq-eqb _ _ e, search) refl;
+          before = kept-before chosen₀ chosen₀ after k a (s .before) refl;
+          long = s .long ∙ length-set chosen₀ k a;
+        }
+
+-- ---- the rows from row i on, tried as partners for the head at p
+
+-- one row, and the rest of the search behind it
+unfoldable pub tryRow : List ℕ → Quest → List (List ℕ) → List ℕ → List ℕ → List ℤ → ℕ → ℕ → List FactId → Binding → Stored → Found
+tryRow t q past symbols ids args p left chosen b s =
+    andThen (candidateOf (q .active) (headAt t p) chosen b s) (λ c. soughtOf t q past symbols ids args (p + 22) (left - 1) (chosen ++ (s .id ∷ [])) c)
+
+unfoldable pub tried : List ℕ → Quest → List (List ℕ) → List ℕ → List ℕ → List ℤ → ℕ → ℕ → List FactId → Binding → ℕ → Found
+tried t q past symbols ids args p left chosen b i = firstOf (tryRow t q past symbols ids args p left chosen b) (rowsFrom symbols ids args i (q .stored - i))
+
+-- the loop over the rows: what it was lent is as it was, but for the chosen ones from k on, and what is tried from row i on is the whole
+pub record Trying (t : List ℕ) (q : Quest) (past : List (List ℕ)) (symbols ids : List ℕ) (args : List ℤ) (p left k : ℕ) (chosen₀ chosen : List ℕ) (values₀ values : List ℤ) (bound₀ bound : List Bool) (i : ℕ) : Type 0 where
+  pub within : i ≤ q .stored
+  pub someLeft : left ≡ 0 → ⊥
+  pub kept : take k chosen ≡ take k chosen₀
+  pub whole : length chosen ≡ 4
+  pub long : length chosen ≡ length chosen₀
+  pub valuesKept : values ≡ values₀
+  pub boundKept : bound ≡ bound₀
+  pub same : tried t q past symbols ids args p left (idsOf k chosen₀) (bindingOf values₀ bound₀) i ≡ soughtOf t q past symbols ids args p left (idsOf k chosen₀) (bindingOf values₀ bound₀)
+
+no-fact : (active : FactId) (h : Head) (chosen : List FactId) (b : Binding) (s : Stored) → (h .symbol .0 ≡ s .fact .symbol .0 → ⊥) → candidateOf active h chosen b s ≡ none
+unfolding candidateOf
+no-fact active h chosen b s d = go (mayStand active chosen (s .id)) (no-head d)
+  where
+    no-head : (h .symbol .0 ≡ s .fact .symbol .0 → ⊥) → matchHead h (s .fact) b ≡ none
+    no-head d = other-head h (s .fact) b d
+
+    go : (x : Bool) → matchHead h (s .fact) b ≡ none → _≡_ {A = Option Binding} (elim x [ true ↦ matchHead h (s .fact) b | false ↦ none ]) none
+    go true e = e
+    go false e = refl
+
+any-binding : {f : Found} {total k : ℕ} {chosen₀ chosen : List ℕ} {b : Binding} → Sought f UndefinedGuard total k chosen₀ chosen b → (c : Binding) → Sought f UndefinedGuard total k chosen₀ chosen c
+unfolding foundAs
+any-binding s c = record { answer = s .answer; before = s .before; long = s .long }
+
+applies-not-nothing : Applies ≡ Nothing → ⊥
+applies-not-nothing e = let z : _≡_ {A = ℕ} 0 1 = cc in omega arith
+
+stuck-not-nothing : UndefinedGuard ≡ Nothing → ⊥
+stuck-not-nothing e = let z : _≡_ {A = ℕ} 0 1 = cc in omega arith
+
+wins : (o : Outcome) (chosen : List FactId) (b : Binding) (later : Found) → (o ≡ Nothing → ⊥) → orElse (foundAs o chosen b) later ≡ foundAs o chosen b
+unfolding foundAs
+wins Applies chosen b later n = refl
+wins Nothing chosen b later n = absurd (n refl)
+wins UndefinedGuard chosen b later n = refl
+
+module _ (t : List ℕ) (q : Quest) (past : List (List ℕ)) (symbols ids : List ℕ) (args : List ℤ) (p left k : ℕ) (chosen₀ : List ℕ) (values₀ : List ℤ) (bound₀ : List Bool) where
+  pub trying-starts : length chosen₀ ≡ 4 → k + left ≤ 4 → (left ≡ 0 → ⊥) → (k ≡ q .place .head → ⊥) → Trying t q past symbols ids args p left k chosen₀ chosen₀ values₀ values₀ bound₀ bound₀ 0
+  unfolding tried tryRow soughtOf search candidate candidateOf
+  trying-starts w few more other =
+      let b = bindingOf values₀ bound₀ in
+      let e : q .stored - 0 ≡ q .stored = omega arith in
+      record {
+        within = omega arith;
+        someLeft = more;
+        kept = refl;
+        whole = w;
+        long = refl;
+        valuesKept = refl;
+        boundKept = refl;
+        same = sym (rw (heads-are t q past symbols ids args p left k chosen₀ b w few more, chosen-count t q past symbols ids args p left k chosen₀ b w few more, ne-eqb _ _ other, search) (rw e refl));
+      }
+
+  module _ {chosen : List ℕ} {values : List ℤ} {bound : List Bool} {i : ℕ} (r : Trying t q past symbols ids args p left k chosen₀ chosen values₀ values bound₀ bound i) where
+    pub tried-out : q .stored ≤ i → Sought (soughtOf t q past symbols ids args p left (idsOf k chosen₀) (bindingOf values₀ bound₀)) Nothing (k + left) k chosen₀ chosen (bindingOf values bound)
+    unfolding tried rowsFrom firstOf foundAs
+    tried-out l =
+        let e : q .stored - i ≡ 0 = omega arith in
+        record { answer = sym (rw e refl) ∙ r .same; before = r .kept; long = r .long }
+
+    module _ (less : i < q .stored) where
+      row-first : tried t q past symbols ids args p left (idsOf k chosen₀) (bindingOf values₀ bound₀) i
+          ≡ orElse (tryRow t q past symbols ids args p left (idsOf k chosen₀) (bindingOf values₀ bound₀) (rowAt symbols ids args i)) (tried t q past symbols ids args p left (idsOf k chosen₀) (bindingOf values₀ bound₀) (i + 1))
+      unfolding tried rowsFrom firstOf
+      row-first = let e : q .stored - i ≡ suc (q .stored - (i + 1)) = omega arith in rw (e, add-one i) refl
+
+      -- a row with which nothing is found
+      next-row : (after : List ℕ) → take k after ≡ take k chosen₀ → length after ≡ length chosen₀
+          → tryRow t q past symbols ids args p left (idsOf k chosen₀) (bindingOf values₀ bound₀) (rowAt symbols ids args i) ≡ nothing
+          → Trying t q past symbols ids args p left k chosen₀ after values₀ values bound₀ bound (i + 1)
+      next-row after kept long n = record {
+        within = omega arith;
+        someLeft = r .someLeft;
+        kept = kept;
+        whole = long ∙ sym (r .long) ∙ r .whole;
+        long = long;
+        valuesKept = r .valuesKept;
+        boundKept = r .boundKept;
+        same = sym (row-first ∙ ap (λ (x : Found). orElse x (tried t q past symbols ids args p left (idsOf k chosen₀) (bindingOf values₀ bound₀) (i + 1))) n) ∙ r .same;
+      }
+
+      none-tried : candidateOf (q .active) (headAt t p) (idsOf k chosen₀) (bindingOf values₀ bound₀) (rowAt symbols ids args i) ≡ none
+          → tryRow t q past symbols ids args p left (idsOf k chosen₀) (bindingOf values₀ bound₀) (rowAt symbols ids args i) ≡ nothing
+      unfolding tryRow
+      none-tried e = rw e
+
+      module _ (h : Pattern) (he : patternOf h ≡ headAt t p) where
+        pub other-symbol : (getD symbols i 0 ≡ h .symbol → ⊥) → Trying t q past symbols ids args p left k chosen₀ chosen values₀ values bound₀ bound (i + 1)
+        unfolding tryRow rowAt rowFact patternOf
+        other-symbol d =
+            next-row chosen (r .kept) (r .long)
+            (none-tried (no-fact (q .active) (headAt t p) (idsOf k chosen₀) (bindingOf values₀ bound₀) (rowAt symbols ids args i) (λ e. d (sym (ap (λ (x : Head). x .symbol .0) he ∙ e)))))
+
+        -- the row as a candidate: what the match left, in the loop's own terms
+        module _ (ok : Bool) (v : List ℤ) (y : List Bool)
+            (m : boundAs ok v y ≡ candidateOf (q .active) (patternOf h) (idsOf k chosen) (bindingOf values bound) (rowAt symbols ids args i)) where
+          as-candidate : boundAs ok v y ≡ candidateOf (q .active) (headAt t p) (idsOf k chosen₀) (bindingOf values₀ bound₀) (rowAt symbols ids args i)
+          unfolding idsOf
+          as-candidate = rw (← he, ← r .kept, ← r .valuesKept, ← r .boundKept) m
+
+          pub no-match : ok ≡ false → Trying t q past symbols ids args p left k chosen₀ chosen values₀ values bound₀ bound (i + 1)
+          unfolding boundAs
+          no-match f = next-row chosen (r .kept) (r .long) (none-tried (sym as-candidate ∙ rw f refl))
+
+          -- a match, and the search behind it
+          module _ (yes : ok ≡ true) (few : k + left ≤ 4) {o : Outcome} {after : List ℕ} {b : Binding}
+              (s : Sought (soughtOf t q past symbols ids args (p + 22) (left - 1) (idsOf (k + 1) (set chosen k (getD ids i 0))) (bindingOf v y)) o (k + 1 + (left - 1)) (k + 1) (set chosen k (getD ids i 0)) after b) where
+            room : k < 4
+            room = let l : left ≡ 0 → ⊥ = r .someLeft in omega (arith, l)
+
+            chosen-are : idsOf (k + 1) (set chosen k (getD ids i 0)) ≡ idsOf k chosen₀ ++ (factId (getD ids i 0) ∷ [])
+            unfolding idsOf
+            chosen-are = chosen-more chosen k (getD ids i 0) (r .whole) room ∙ ap (λ (l : List ℕ). map factId l ++ (factId (getD ids i 0) ∷ [])) (r .kept)
+
+            found-is : tryRow t q past symbols ids args p left (idsOf k chosen₀) (bindingOf values₀ bound₀) (rowAt symbols ids args i) ≡ foundAs o (idsOf (k + left) after) b
+            unfolding tryRow boundAs rowAt
+            found-is =
+                let same : k + 1 + (left - 1) ≡ k + left = let l : left ≡ 0 → ⊥ = r .someLeft in omega (arith, l) in
+                rw (← as-candidate, yes) (sym (ap (λ (n : ℕ). foundAs o (idsOf n after) b) (sym same) ∙ s .answer ∙ ap (λ (l : List FactId). soughtOf t q past symbols ids args (p + 22) (left - 1) l (bindingOf v y)) chosen-are))
+
+            after-kept : take k after ≡ take k chosen₀
+            after-kept = kept-before chosen₀ chosen after k (getD ids i 0) (s .before) (r .kept)
+
+            after-long : length after ≡ length chosen₀
+            after-long = s .long ∙ length-set chosen k (getD ids i 0) ∙ r .long
+
+            pub found-nothing : o ≡ Nothing → Trying t q past symbols ids args p left k chosen₀ after values₀ values bound₀ bound (i + 1)
+            unfolding foundAs
+            found-nothing e = next-row after after-kept after-long (found-is ∙ rw e refl)
+
+            -- any other answer is the whole search's
+            answer-found : (o ≡ Nothing → ⊥) → Sought (soughtOf t q past symbols ids args p left (idsOf k chosen₀) (bindingOf values₀ bound₀)) o (k + left) k chosen₀ after b
+            answer-found n = record {
+              answer = sym (row-first ∙ ap (λ (x : Found). orElse x (tried t q past symbols ids args p left (idsOf k chosen₀) (bindingOf values₀ bound₀) (i + 1))) found-is ∙ wins o (idsOf (k + left) after) b (tried t q past symbols ids args p left (idsOf k chosen₀) (bindingOf values₀ bound₀) (i + 1)) n) ∙ r .same;
+              before = after-kept;
+              long = after-long;
+            }
+
+            pub found-applies : o ≡ Applies → Sought (soughtOf t q past symbols ids args p left (idsOf k chosen₀) (bindingOf values₀ bound₀)) Applies (k + left) k chosen₀ after b
+            found-applies e = subst (λ (x : Outcome). Sought (soughtOf t q past symbols ids args p left (idsOf k chosen₀) (bindingOf values₀ bound₀)) x (k + left) k chosen₀ after b) e (answer-found (λ z. applies-not-nothing (sym e ∙ z)))
+
+            -- where the guard has no value the binding says nothing
+            pub found-stuck : o ≡ UndefinedGuard → (b′ : Binding) → Sought (soughtOf t q past symbols ids args p left (idsOf k chosen₀) (bindingOf values₀ bound₀)) UndefinedGuard (k + left) k chosen₀ after b′
+            found-stuck e b′ = any-binding (subst (λ (x : Outcome). Sought (soughtOf t q past symbols ids args p left (idsOf k chosen₀) (bindingOf values₀ bound₀)) x (k + left) k chosen₀ after b) e (answer-found (λ z. stuck-not-nothing (sym e ∙ z)))) b′
+
+-- ---- what each call asks
+
+module _ {t : List ℕ} {q : Quest} {past : List (List ℕ)} {chosen₀ : List ℕ} {p left k : ℕ} (r : Ready t q past chosen₀ p left k) where
+  pub ready-judge : Ready t q past chosen₀ 0 0 k
+  ready-judge = record {
+    headsIn = omega arith;
+    guardsIn = r .guardsIn;
+    few = omega (arith, r .few);
+    fewStored = r .fewStored;
+    fewNoted = r .fewNoted;
+    wholePast = r .wholePast;
+    wholeChosen = r .wholeChosen;
+  }
+
+  pub ready-next : (chosen : List ℕ) (x : ℕ) → length chosen ≡ 4 → (left ≡ 0 → ⊥) → Ready t q past (set chosen k x) (p + 22) (left - 1) (k + 1)
+  ready-next chosen x w more = record {
+    headsIn = omega (arith, r .headsIn, more);
+    guardsIn = r .guardsIn;
+    few = omega (arith, r .few, more);
+    fewStored = r .fewStored;
+    fewNoted = r .fewNoted;
+    wholePast = r .wholePast;
+    wholeChosen = length-set chosen k x ∙ w;
+  }
+
+  pub head-in : (left ≡ 0 → ⊥) → p + 22 ≤ length t
+  head-in more = omega (arith, r .headsIn, more)
+
+  pub chosen-held : (chosen : List ℕ) → length chosen ≡ 4 → Held chosen k
+  chosen-held chosen w = record { whole = w; few = omega (arith, r .few) }
+
+-- ---- the active fact
+
+-- the rows from i on, looked through
+unfoldable pub lookedFrom : List ℕ → List ℕ → List ℤ → FactId → ℕ → ℕ → Option Fact
+lookedFrom symbols ids args id n i = storedFact id (rowsFrom symbols ids args i (n - i))
+
+module _ (symbols ids : List ℕ) (args : List ℤ) (id : FactId) (n i : ℕ) where
+  pub look-start : lookedFrom symbols ids args id n 0 ≡ storedFact id (rowsFrom symbols ids args 0 n)
+  unfolding lookedFrom
+  look-start = let e : n - 0 ≡ n = omega arith in rw e refl
+
+  pub look-hit : i < n → getD ids i 0 ≡ id .0 → {f : Fact} {whole : Option Fact} → f ≡ rowFact symbols args i → lookedFrom symbols ids args id n i ≡ whole → lookupOf (Here f) ≡ whole
+  unfolding lookedFrom rowsFrom storedFact rowAt lookupOf
+  look-hit l h f w = let e : n - i ≡ suc (n - (i + 1)) = omega arith in ap some f ∙ sym (rw (e, eq-eqb _ _ h) refl) ∙ w
+
+  pub look-miss : i < n → (getD ids i 0 ≡ id .0 → ⊥) → {whole : Option Fact} → lookedFrom symbols ids args id n i ≡ whole → lookedFrom symbols ids args id n (i + 1) ≡ whole
+  unfolding lookedFrom rowsFrom storedFact rowAt
+  look-miss l h w = let e : n - i ≡ suc (n - (i + 1)) = omega arith in sym (rw (e, ne-eqb _ _ h, add-one i) refl) ∙ w
+
+  pub look-none : {whole : Option Fact} → lookedFrom symbols ids args id n i ≡ whole → n ≤ i → lookupOf Gone ≡ whole
+  unfolding lookedFrom rowsFrom storedFact lookupOf
+  look-none w l = let e : n - i ≡ 0 = omega arith in sym (rw e refl) ∙ w
+
+module _ (t : List ℕ) (q : Quest) (past : List (List ℕ)) (symbols ids : List ℕ) (args : List ℤ) (chosen₀ : List ℕ) (r : Posed t q past chosen₀)
+    {found : Lookup} (fe : lookupOf found ≡ storedFact (q .active) (rowsFrom symbols ids args 0 (q .stored))) where
+  pub not-stored : found ≡ Gone → (b : Binding) → Answered (firstOfQuest t q past symbols ids args) Nothing (q .shape .heads) chosen₀ chosen₀ b
+  unfolding firstOfQuest firstInstance lookupOf foundAs
+  not-stored e b = record { answer = sym (rw (← fe, e) refl); long = refl }
+
+  module _ {f : Fact} (e : found ≡ Here f) (h : Pattern) (he : patternOf h ≡ headAt t (headsStart (q .shape) + 22 * q .place .head)) (ok : Bool) (v : List ℤ) (y : List Bool)
+      (m : boundAs ok v y ≡ matchHead (patternOf h) f unbound) where
+    begins : firstOfQuest t q past symbols ids args ≡ fromActive (rowsFrom symbols ids args 0 (q .stored)) (pastOf (q .noted) past) (q .place) (ruleOf t (q .shape)) (q .active) (boundAs ok v y)
+    unfolding firstOfQuest firstInstance lookupOf
+    begins =
+        let own : getD (heads (ruleOf t (q .shape))) (q .place .head) noHead ≡ patternOf h
+        = ap (λ (l : List Head). getD l (q .place .head) noHead) (rule-heads t (q .shape) (r .keptFew)) ∙ heads-at t (headsStart (q .shape)) (q .shape .heads) (q .place .head) noHead (r .headIn) ∙ sym he in
+        rw (← fe, e, own, ← m) refl
+
+    pub no-place : ok ≡ false → (b : Binding) → Answered (firstOfQuest t q past symbols ids args) Nothing (q .shape .heads) chosen₀ chosen₀ b
+    unfolding boundAs foundAs
+    no-place n b = record { answer = sym (begins ∙ rw n refl); long = refl }
+
+    pub sought-first : ok ≡ true → {o : Outcome} {chosen : List ℕ} {b : Binding}
+        → Sought (soughtOf t q past symbols ids args (headsStart (q .shape)) (q .shape .heads) (idsOf 0 chosen₀) (bindingOf v y)) o (0 + q .shape .heads) 0 chosen₀ chosen b
+        → Answered (firstOfQuest t q past symbols ids args) o (q .shape .heads) chosen₀ chosen b
+    unfolding boundAs soughtOf idsOf
+    sought-first y1 {o} {chosen} {b} s =
+        let same : q .shape .heads ≡ 0 + q .shape .heads = omega arith in
+        record {
+          answer = ap (λ (n : ℕ). foundAs o (idsOf n chosen) b) same ∙ s .answer
+              ∙ sym (begins ∙ rw (y1, rule-heads t (q .shape) (r .keptFew)) refl);
+          long = s .long;
+        }
+
+module _ {t : List ℕ} {q : Quest} {past : List (List ℕ)} {chosen₀ : List ℕ} (r : Posed t q past chosen₀) where
+  pub ready-first : Ready t q past chosen₀ (headsStart (q .shape)) (q .shape .heads) 0
+  ready-first = record {
+    headsIn = omega (arith, r .partsIn);
+    guardsIn = r .partsIn;
+    few = omega (arith, r .fewHeads);
+    fewStored = r .fewStored;
+    fewNoted = r .fewNoted;
+    wholePast = r .wholePast;
+    wholeChosen = r .wholeChosen;
+  }
+
+  pub own-head-in : headsStart (q .shape) + 22 * q .place .head + 22 ≤ length t
+  own-head-in = omega (arith, r .partsIn, mul-le-mul-left 22 (r .headIn))

@@ -1,0 +1,244 @@
+// The search itself: the active fact is bound at its place, then the other heads are tried in written order, each with the
+// stored facts by rising identifier. The first answer that is not "nothing" wins.
+use crate::Lookup;
+use crate::Outcome;
+use crate::Pattern;
+use crate::Quest;
+use model::Fact;
+use model::FactId;
+use model::HistoryEntry;
+use model::Symbol;
+use numbers::Truth;
+ghost use mathlib.Core.Path.{_≡_};
+ghost use Prim.Native.Nat.{_+_, _≤_, _<_};
+ghost use lib.ListN.{length};
+ghost use mathlib.Core.List.{[]};
+ghost use Rattle.model.specs.Search.{complete, storedFact};
+ghost use Rattle.model.specs.Table.{ruleOf};
+ghost use Rattle.search.specs.Views.{idsOf, Held, bindingOf, boundAs, patternOf, rowFact, rowAt, rowsFrom, pastOf, candidateOf, foundAs, lookupOf, soughtOf, Ready, Sought, firstOfQuest, Posed, Answered};
+
+// The fact of a row of the store's columns.
+pub fn fact_at(symbols: &[u8; 128], args: &[i32; 512], i: usize) -> Fact
+    requires { ⌜ i < 128 ⌝ }
+    ensures { λ r. ⌜ r ≡ rowFact (now (symbols .entry)) (now (args .entry)) i ⌝ }
+{
+    let at = 4 * i;
+    Fact {
+        symbol: Symbol(symbols[i]),
+        a0: args[at],
+        a1: args[at + 1],
+        a2: args[at + 2],
+        a3: args[at + 3],
+    }
+}
+
+// A row as the partner for a head: neither the active fact nor one that is chosen, and it matches.
+pub fn candidate<'a>(
+    h: Pattern,
+    i: usize,
+    active: FactId,
+    symbols: &'a [u8; 128],
+    ids: &'a [u32; 128],
+    args: &'a [i32; 512],
+    chosen: &[u32; 4],
+    k: usize,
+    values: &mut [i32; 16],
+    bound: &mut [bool; 16],
+) -> bool
+    requires { ⌜ (i < 128) × Held (now chosen) k ⌝ }
+    ensures { λ r. ⌜ boundAs r (now (values .exit)) (now (bound .exit)) ≡ candidateOf active (patternOf h) (idsOf k (now (chosen .entry))) (bindingOf (now (values .entry)) (now (bound .entry))) (rowAt (now (symbols .entry)) (now (ids .entry)) (now (args .entry)) i) ⌝ }
+{
+    let id = ids[i];
+    if id == active.0 {
+        return false;
+    }
+    if crate::history::is_among(id, chosen, 0, k) {
+        return false;
+    }
+    crate::matching::match_head(h, fact_at(symbols, args, i), values, bound)
+}
+
+// A complete match: passed over if it is in the history, else its guard decides.
+pub fn judge(
+    t: &[u8],
+    q: Quest,
+    past: &[HistoryEntry; 256],
+    chosen: &[u32; 4],
+    k: usize,
+    values: &[i32; 16],
+    bound: &[bool; 16],
+) -> Outcome
+    requires { ⌜ Ready (now t) q (now past) (now chosen) 0 0 k ⌝ }
+    ensures { λ r. ⌜ foundAs r (idsOf k (now (chosen .entry))) (bindingOf (now (values .entry)) (now (bound .entry))) ≡ complete [] (pastOf (q .noted) (now (past .entry))) (q .place) (ruleOf (now (t .entry)) (q .shape)) (q .active) (idsOf k (now (chosen .entry))) (bindingOf (now (values .entry)) (now (bound .entry))) ⌝ }
+{
+    let place = q.place;
+    let e = crate::history::entry(place.rule, chosen, k);
+    if crate::history::recorded(past, q.noted, e) {
+        return Outcome::Nothing;
+    }
+    let shape = q.shape;
+    let at = shape.start + 1 + 22 * (shape.heads as usize);
+    let truth = crate::guards::guard_value(t, at, shape.guards, values, bound);
+    match truth {
+        Truth::True => Outcome::Applies,
+        Truth::False => Outcome::Nothing,
+        Truth::Undefined => Outcome::UndefinedGuard,
+    }
+}
+
+// The first answer for the heads that are left, of which the first stands at p, k facts being chosen for those before it.
+pub fn seek<'a>(
+    t: &[u8],
+    p: usize,
+    left: usize,
+    k: usize,
+    q: Quest,
+    past: &[HistoryEntry; 256],
+    symbols: &'a [u8; 128],
+    ids: &'a [u32; 128],
+    args: &'a [i32; 512],
+    chosen: &mut [u32; 4],
+    values: &mut [i32; 16],
+    bound: &mut [bool; 16],
+) -> Outcome
+    requires { ⌜ Ready (now t) q (now past) (now chosen) p left k ⌝ }
+    ensures { λ r. ⌜ Sought (soughtOf (now (t .entry)) q (now (past .entry)) (now (symbols .entry)) (now (ids .entry)) (now (args .entry)) p left (idsOf k (now (chosen .entry))) (bindingOf (now (values .entry)) (now (bound .entry)))) r (k + left) k (now (chosen .entry)) (now (chosen .exit)) (bindingOf (now (values .exit)) (now (bound .exit))) ⌝ }
+{
+    if left == 0 {
+        return judge(t, q, past, chosen, k, values, bound);
+    }
+    let place = q.place;
+    let head = place.head as usize;
+    let active = q.active;
+    let next = p + 22;
+    let fewer = left - 1;
+    let more = k + 1;
+    if k == head {
+        chosen[k] = active.0;
+        return seek(
+            t,
+            next,
+            fewer,
+            more,
+            q,
+            past,
+            symbols,
+            ids,
+            args,
+            chosen,
+            values,
+            bound,
+        );
+    }
+    let h = crate::decode::head_within(t, p);
+    let wanted = h.symbol;
+    let n = q.stored;
+    let mut i: usize = 0;
+    while i < n {
+        let at = i;
+        i += 1;
+        if symbols[at] == wanted {
+            let mut v = *values;
+            let mut b = *bound;
+            if candidate(h, at, active, symbols, ids, args, chosen, k, &mut v, &mut b) {
+                chosen[k] = ids[at];
+                let r = seek(
+                    t,
+                    next,
+                    fewer,
+                    more,
+                    q,
+                    past,
+                    symbols,
+                    ids,
+                    args,
+                    chosen,
+                    &mut v,
+                    &mut b,
+                );
+                match r {
+                    Outcome::Applies => {
+                        *values = v;
+                        *bound = b;
+                        return Outcome::Applies;
+                    }
+                    Outcome::UndefinedGuard => {
+                        return Outcome::UndefinedGuard;
+                    }
+                    Outcome::Nothing => {}
+                }
+            }
+        }
+    }
+    Outcome::Nothing
+}
+
+// The stored fact of an identifier.
+pub fn stored_fact<'a>(
+    symbols: &'a [u8; 128],
+    ids: &'a [u32; 128],
+    args: &'a [i32; 512],
+    stored: usize,
+    id: FactId,
+) -> Lookup
+    requires { ⌜ stored ≤ 128 ⌝ }
+    ensures { λ r. ⌜ lookupOf r ≡ storedFact id (rowsFrom (now (symbols .entry)) (now (ids .entry)) (now (args .entry)) 0 stored) ⌝ }
+{
+    let wanted = id.0;
+    let mut i: usize = 0;
+    while i < stored {
+        if ids[i] == wanted {
+            return Lookup::Here(fact_at(symbols, args, i));
+        }
+        i += 1;
+    }
+    Lookup::Gone
+}
+
+// The first applicable instance at a head place: the active fact is bound there first, then the partners are sought.
+pub fn first_instance<'a>(
+    t: &[u8],
+    q: Quest,
+    past: &[HistoryEntry; 256],
+    symbols: &'a [u8; 128],
+    ids: &'a [u32; 128],
+    args: &'a [i32; 512],
+    chosen: &mut [u32; 4],
+    values: &mut [i32; 16],
+    bound: &mut [bool; 16],
+) -> Outcome
+    requires { ⌜ Posed (now t) q (now past) (now chosen) ⌝ }
+    ensures { λ r. ⌜ Answered (firstOfQuest (now (t .entry)) q (now (past .entry)) (now (symbols .entry)) (now (ids .entry)) (now (args .entry))) r (q .shape .heads) (now (chosen .entry)) (now (chosen .exit)) (bindingOf (now (values .exit)) (now (bound .exit))) ⌝ }
+{
+    let found = stored_fact(symbols, ids, args, q.stored, q.active);
+    match found {
+        Lookup::Here(f) => {
+            let shape = q.shape;
+            let place = q.place;
+            let start = shape.start + 1;
+            let heads = shape.heads as usize;
+            let at = start + 22 * (place.head as usize);
+            let h = crate::decode::head_within(t, at);
+            *values = [0i32; 16];
+            *bound = [false; 16];
+            if crate::matching::match_head(h, f, values, bound) {
+                return seek(
+                    t,
+                    start,
+                    heads,
+                    0,
+                    q,
+                    past,
+                    symbols,
+                    ids,
+                    args,
+                    chosen,
+                    values,
+                    bound,
+                );
+            }
+            Outcome::Nothing
+        }
+        Lookup::Gone => Outcome::Nothing,
+    }
+}
