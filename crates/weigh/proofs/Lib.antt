@@ -1,0 +1,5 @@
+pub mod Parts
+pub mod Turns
+pub mod Bounds
+pub mod Chain
+pub mod Demand

@@ -1,0 +1,3 @@
+pub mod Raising
+pub mod Accepted
+pub mod Worked
