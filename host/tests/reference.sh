@@ -1,16 +1,14 @@
 #!/usr/bin/env bash
 # The second engine's own tests. The last line is 'N passed, M failed' over all of them.
 set -u
-cd "$(dirname "$0")/.."
-export CARGO_TARGET_DIR="$PWD/../target/host"
+cd "$(dirname "$0")/../.." || exit 2
+. scripts/testing.sh
+export CARGO_TARGET_DIR="$PWD/target/host"
 
-if ! command -v cargo > /dev/null; then
-    echo "reference: no cargo, installing Debian's"
-    { apt-get update -q && apt-get install -qy --no-install-recommends cargo rustc; } > /dev/null 2>&1
-fi
+have_rust || give_up "there is no cargo here, and it could not be installed"
 
 log=$(mktemp)
-cargo test --quiet --offline --release -j1 > "$log" 2>&1
+(cd host && cargo test --quiet --offline --release -j1) > "$log" 2>&1
 status=$?
 
 # Each test program says 'test result: ok. 3 passed; 0 failed; ...'.

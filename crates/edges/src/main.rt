@@ -5,29 +5,13 @@
 // sides, each a tag (0: undefined) and four bytes of value. Kind 2 reads at that place of the case itself, and at the last place
 // of all where the number is 255. Kind 3 writes the value of the four bytes from 2 on at that place of eight zeros.
 use libc::STDIN_FILENO;
-use libc::STDOUT_FILENO;
 use numbers::Truth;
 use numbers::Value;
+use text::put;
+use text::put_signed;
+use text::put_unsigned;
 
 const LAST_PLACE: usize = 18446744073709551615;
-
-fn put(text: &[u8]) {
-    io::write_all(STDOUT_FILENO, text);
-}
-
-fn put_unsigned(n: u64) {
-    io::print_decimal(STDOUT_FILENO, n);
-}
-
-fn put_signed(v: i32) {
-    let n = wire::bits(v) as u64;
-    if v < 0 {
-        put(b"-");
-        put_unsigned(4294967296 - n);
-    } else {
-        put_unsigned(n);
-    }
-}
 
 fn put_bytes(s: &[u8]) {
     let mut i = 0;

@@ -1,0 +1,2 @@
+-- The definition of where an input's table ends.
+pub mod Input

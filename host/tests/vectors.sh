@@ -1,0 +1,18 @@
+#!/usr/bin/env bash
+# The stored cases of crates/vectors, and the lines expected of them, are what the second engine writes.
+set -u
+cd "$(dirname "$0")/../.." || exit 2
+. scripts/testing.sh
+export CARGO_TARGET_DIR="$PWD/target/host"
+
+# The groups of cases that are stored.
+groups=(check goal run weigh)
+
+fresh=$(mktemp -d) || exit 2
+trap 'rm -rf "$fresh"' EXIT
+
+have_rust || give_up "there is no cargo here, and it could not be installed"
+(cd host && cargo run --quiet --offline --release -j1 --bin vectors -- "$fresh" "${groups[@]}") ||
+    give_up "the second engine's program did not run to its end"
+
+same_stored "$fresh" vectors "the second engine"

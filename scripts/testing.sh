@@ -1,0 +1,45 @@
+# For tests to source: what they need beyond the toolchain, from Debian's packages, and what they do alike.
+# It defines functions and runs nothing.
+
+# install_packages PACKAGE...: only root on Debian can.
+install_packages() {
+    [ "$(id -u)" -eq 0 ] || return 1
+    export DEBIAN_FRONTEND=noninteractive
+    apt-get -qq update && apt-get -qq install --yes --no-install-recommends "$@" > /dev/null
+}
+
+# have COMMAND PACKAGE...: sees that a command is there, and installs the packages where it is not.
+have() {
+    local command=$1
+    shift
+    command -v "$command" > /dev/null && return
+    install_packages "$@"
+    command -v "$command" > /dev/null
+}
+
+# Rust, for the second engine.
+have_rust() {
+    have cargo cargo rustc
+}
+
+# Says why nothing was tried, and ends.
+give_up() {
+    echo "$(basename "$0"): $*"
+    echo "0 passed, 1 failed"
+    exit 1
+}
+
+# same_stored FOLDER CRATE GENERATOR: the stdin and stdout of a crate are those that its generator has written to a folder.
+same_stored() {
+    local name passed=0 failed=0
+    for name in stdin stdout; do
+        if cmp "$1/$name" "crates/$2/$name"; then
+            passed=$((passed + 1))
+        else
+            echo "$(basename "$0"): crates/$2/$name is not what $3 writes"
+            failed=$((failed + 1))
+        fi
+    done
+    echo "$passed passed, $failed failed"
+    [ "$failed" -eq 0 ]
+}
