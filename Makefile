@@ -1,5 +1,5 @@
 # Nadhirukh: a proved engine for Constraint Handling Rules over whole numbers.
-.PHONY: demo test fmt
+.PHONY: demo test lib fmt
 
 # Prove and build what there is, and run the main job on an example.
 demo:
@@ -8,6 +8,11 @@ demo:
 # The gate: every proof, must-fail edit, program and host test; the last line is 'N passed, M failed'.
 test:
 	@scripts/gate
+
+# The static library for C on x86-64, and how to link it.
+lib:
+	@rt staticlib gateway
+	@echo 'to link: cc -Iinclude PROGRAM.c target/staticlib/libgateway.a'
 
 # Lay out every source and proof file.
 fmt:

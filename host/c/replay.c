@@ -1,0 +1,251 @@
+/*
+ * Runs the stored cases of the standard input (crates/vectors/stdin) through the C interface and prints a line for each, as the
+ * program of crates/vectors does: the lines expected are the same file. Every buffer is lent between guard bytes, and where a call
+ * touches what it may not, a line says so and the status is 1.
+ */
+#include <stdio.h>
+#include <stdlib.h>
+#include <string.h>
+
+#include "nadhirukh.h"
+
+/* Bytes before and after each buffer that no call may touch. */
+#define GUARD 64
+#define GUARD_BYTE 0x5A
+
+/* What each byte of the answer holds before a run. */
+#define FILL 0xA5
+
+/* What a word of a result holds before a call: every call writes all of them. */
+#define STALE 0x5A5A5A5Au
+
+/* The length of a case's header, and the most bytes that the cases may have. */
+#define HEADER 21
+#define MOST (16ul * 1024 * 1024)
+
+static void fail(const char *what)
+{
+    printf("%s\n", what);
+    exit(1);
+}
+
+/* A buffer of len bytes between guard bytes. */
+struct lent {
+    uint8_t *bytes;
+    size_t len;
+};
+
+static struct lent lend(const uint8_t *content, size_t len)
+{
+    struct lent made;
+    uint8_t *all = malloc(len + 2 * GUARD);
+    if (all == NULL)
+        fail("no memory");
+    memset(all, GUARD_BYTE, len + 2 * GUARD);
+    memcpy(all + GUARD, content, len);
+    made.bytes = all + GUARD;
+    made.len = len;
+    return made;
+}
+
+/* An answer buffer, full of what it holds before a run. */
+static struct lent lend_full(size_t len)
+{
+    struct lent made;
+    uint8_t *content = malloc(len + 1);
+    if (content == NULL)
+        fail("no memory");
+    memset(content, FILL, len);
+    made = lend(content, len);
+    free(content);
+    return made;
+}
+
+/* Takes a buffer back: its guard bytes are as they were. */
+static void take_back(struct lent lent)
+{
+    uint8_t *all = lent.bytes - GUARD;
+    size_t i;
+    for (i = 0; i < GUARD; i++)
+        if (all[i] != GUARD_BYTE || lent.bytes[lent.len + i] != GUARD_BYTE)
+            fail("bytes around a buffer were changed");
+    free(all);
+}
+
+/* The same for a buffer that is only read: it holds what it held. */
+static void take_back_kept(struct lent lent, const uint8_t *content)
+{
+    if (memcmp(lent.bytes, content, lent.len) != 0)
+        fail("a buffer that is only read was changed");
+    take_back(lent);
+}
+
+/* A row of at most six words, between as many guard words. */
+struct words {
+    uint32_t row[3 * NADHIRUKH_RESULT];
+};
+
+static void stale(struct words *words)
+{
+    size_t i;
+    for (i = 0; i < 3 * NADHIRUKH_RESULT; i++)
+        words->row[i] = STALE;
+}
+
+/* Prints the `count` words that a call wrote, each behind a space. */
+static void print_words(const struct words *words, size_t count)
+{
+    size_t i;
+    for (i = 0; i < 3 * NADHIRUKH_RESULT; i++) {
+        int lent = NADHIRUKH_RESULT <= i && i < NADHIRUKH_RESULT + count;
+        if (lent)
+            printf(" %lu", (unsigned long)words->row[i]);
+        else if (words->row[i] != STALE)
+            fail("words around a result were changed");
+    }
+}
+
+/* Prints a result; the number is the one returned. */
+static void print_result(const struct words *result, uint32_t number)
+{
+    if (number != result->row[NADHIRUKH_RESULT])
+        fail("the number returned is not the result's");
+    print_words(result, NADHIRUKH_RESULT);
+}
+
+/* A case: its kind, and where its parts stand in the input. */
+struct stored_case {
+    uint8_t kind;
+    size_t table_len;
+    size_t goal_len;
+    size_t weights_len;
+    uint32_t limit;
+    size_t answer_len;
+    const uint8_t *table;
+    const uint8_t *goal;
+    const uint8_t *weights;
+};
+
+static uint32_t word_at(const uint8_t *bytes)
+{
+    return (uint32_t)bytes[0] | (uint32_t)bytes[1] << 8 | (uint32_t)bytes[2] << 16 | (uint32_t)bytes[3] << 24;
+}
+
+static struct stored_case read_case(const uint8_t *bytes)
+{
+    struct stored_case c;
+    c.kind = bytes[0];
+    c.table_len = word_at(bytes + 1);
+    c.goal_len = word_at(bytes + 5);
+    c.weights_len = word_at(bytes + 9);
+    c.limit = word_at(bytes + 13);
+    c.answer_len = word_at(bytes + 17);
+    c.table = bytes + HEADER;
+    c.goal = c.table + c.table_len;
+    c.weights = c.goal + c.goal_len;
+    return c;
+}
+
+static void check(struct stored_case c)
+{
+    struct lent table = lend(c.table, c.table_len);
+    struct words result;
+    uint32_t number;
+    stale(&result);
+    number = nadhirukh_check(table.bytes, table.len, result.row + NADHIRUKH_RESULT);
+    printf("C");
+    print_result(&result, number);
+    printf("\n");
+    take_back_kept(table, c.table);
+}
+
+/* Prints the records that a run wrote, and whether all other bytes are as they were. */
+static void print_answer(struct lent answer, const struct words *result)
+{
+    uint32_t number = result->row[NADHIRUKH_RESULT];
+    size_t written = number == 0 ? (size_t)NADHIRUKH_STORED_FACT * result->row[2 * NADHIRUKH_RESULT - 1] : 0;
+    size_t i;
+    if (answer.len < written)
+        fail("more facts are stored than the answer has room for");
+    if (0 < written)
+        printf(" ");
+    for (i = 0; i < written; i++)
+        printf("%02x", answer.bytes[i]);
+    while (i < answer.len && answer.bytes[i] == FILL)
+        i++;
+    printf(i == answer.len ? " keeps" : " changed");
+}
+
+static void run(struct stored_case c)
+{
+    struct lent table = lend(c.table, c.table_len);
+    struct lent goal = lend(c.goal, c.goal_len);
+    struct lent answer = lend_full(c.answer_len);
+    struct words result;
+    uint32_t number;
+    stale(&result);
+    number = nadhirukh_run(table.bytes, table.len, goal.bytes, goal.len, c.limit, answer.bytes, answer.len, result.row + NADHIRUKH_RESULT);
+    printf("R");
+    print_result(&result, number);
+    print_answer(answer, &result);
+    printf("\n");
+    take_back_kept(table, c.table);
+    take_back_kept(goal, c.goal);
+    take_back(answer);
+}
+
+static void weigh(struct stored_case c)
+{
+    struct lent table = lend(c.table, c.table_len);
+    struct lent goal = lend(c.goal, c.goal_len);
+    struct lent weights = lend(c.weights, c.weights_len);
+    struct words result, bound;
+    uint32_t number;
+    stale(&result);
+    stale(&bound);
+    number = nadhirukh_weigh(table.bytes, table.len, weights.bytes, weights.len, goal.bytes, goal.len, result.row + NADHIRUKH_RESULT,
+                             bound.row + NADHIRUKH_RESULT);
+    printf("W");
+    print_result(&result, number);
+    print_words(&bound, NADHIRUKH_BOUND);
+    printf("\n");
+    take_back_kept(table, c.table);
+    take_back_kept(goal, c.goal);
+    take_back_kept(weights, c.weights);
+}
+
+static void run_case(struct stored_case c)
+{
+    switch (c.kind) {
+    case 'C':
+        check(c);
+        break;
+    case 'R':
+        run(c);
+        break;
+    case 'W':
+        weigh(c);
+        break;
+    default:
+        fail("no such kind");
+    }
+}
+
+int main(void)
+{
+    uint8_t *bytes = malloc(MOST);
+    size_t len, at = 0;
+    if (bytes == NULL)
+        fail("no memory");
+    len = fread(bytes, 1, MOST, stdin);
+    while (HEADER <= len - at) {
+        struct stored_case c = read_case(bytes + at);
+        size_t left = len - at - HEADER;
+        if (left < c.table_len || left - c.table_len < c.goal_len || left - c.table_len - c.goal_len < c.weights_len)
+            fail("case cut short");
+        run_case(c);
+        at += HEADER + c.table_len + c.goal_len + c.weights_len;
+    }
+    free(bytes);
+    return 0;
+}
