@@ -1,5 +1,5 @@
 # Nadhirukh: a proved engine for Constraint Handling Rules over whole numbers.
-.PHONY: demo test lib fmt
+.PHONY: demo test lib memory fmt
 
 # Prove and build what there is, and run the main job on an example.
 demo:
@@ -13,6 +13,10 @@ test:
 lib:
 	@rt staticlib gateway
 	@echo 'to link: cc -Iinclude PROGRAM.c target/staticlib/libgateway.a'
+
+# The machine stack of the calls, over the stored cases, and the size of their code.
+memory:
+	@scripts/memory
 
 # Lay out every source and proof file.
 fmt:

@@ -17,6 +17,9 @@
  * Nothing is kept from call to call and nothing is allocated, so calls may be made from several threads at once, each with its own
  * `result`, `answer` and `bound`; they may read the same table, as long as nobody writes it meanwhile.
  *
+ * Stack. Over the stored cases of this project a run took at most 23,784 bytes of machine stack on x86-64, a check 3,352 and a weighing
+ * 4,504 (docs/MEASUREMENTS.md). These are measured, not proved: allow 26,624.
+ *
  * Numbers of a run that was admitted:
  *
  *      0  done: the answer has the facts stored                         place: 0

@@ -1,4 +1,4 @@
-# For tests to source: what they need beyond the toolchain, from Debian's packages, and what they do alike.
+# For tests and measurements to source: what they need beyond the toolchain, from Debian's packages, and what they do alike.
 # It defines functions and runs nothing.
 
 # install_packages PACKAGE...: only root on Debian can.
@@ -20,6 +20,19 @@ have() {
 # Rust, for the second engine.
 have_rust() {
     have cargo cargo rustc
+}
+
+# A C compiler for x86-64, and what runs its programs: sets compiler and runner.
+have_c() {
+    if [ "$(uname -m)" = x86_64 ]; then
+        compiler=gcc
+        runner=()
+        have gcc gcc libc6-dev
+    else
+        compiler=x86_64-linux-gnu-gcc
+        runner=(qemu-x86_64)
+        have x86_64-linux-gnu-gcc gcc-x86-64-linux-gnu libc6-dev-amd64-cross && have qemu-x86_64 qemu-user
+    fi
 }
 
 # Says why nothing was tried, and ends.

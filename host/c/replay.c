@@ -7,6 +7,7 @@
 #include <stdlib.h>
 #include <string.h>
 
+#include "cases.h"
 #include "nadhirukh.h"
 
 /* Bytes before and after each buffer that no call may touch. */
@@ -18,16 +19,6 @@
 
 /* What a word of a result holds before a call: every call writes all of them. */
 #define STALE 0x5A5A5A5Au
-
-/* The length of a case's header, and the most bytes that the cases may have. */
-#define HEADER 21
-#define MOST (16ul * 1024 * 1024)
-
-static void fail(const char *what)
-{
-    printf("%s\n", what);
-    exit(1);
-}
 
 /* A buffer of len bytes between guard bytes. */
 struct lent {
@@ -111,39 +102,6 @@ static void print_result(const struct words *result, uint32_t number)
     if (number != result->row[NADHIRUKH_RESULT])
         fail("the number returned is not the result's");
     print_words(result, NADHIRUKH_RESULT);
-}
-
-/* A case: its kind, and where its parts stand in the input. */
-struct stored_case {
-    uint8_t kind;
-    size_t table_len;
-    size_t goal_len;
-    size_t weights_len;
-    uint32_t limit;
-    size_t answer_len;
-    const uint8_t *table;
-    const uint8_t *goal;
-    const uint8_t *weights;
-};
-
-static uint32_t word_at(const uint8_t *bytes)
-{
-    return (uint32_t)bytes[0] | (uint32_t)bytes[1] << 8 | (uint32_t)bytes[2] << 16 | (uint32_t)bytes[3] << 24;
-}
-
-static struct stored_case read_case(const uint8_t *bytes)
-{
-    struct stored_case c;
-    c.kind = bytes[0];
-    c.table_len = word_at(bytes + 1);
-    c.goal_len = word_at(bytes + 5);
-    c.weights_len = word_at(bytes + 9);
-    c.limit = word_at(bytes + 13);
-    c.answer_len = word_at(bytes + 17);
-    c.table = bytes + HEADER;
-    c.goal = c.table + c.table_len;
-    c.weights = c.goal + c.goal_len;
-    return c;
 }
 
 static void check(struct stored_case c)
@@ -233,19 +191,6 @@ static void run_case(struct stored_case c)
 
 int main(void)
 {
-    uint8_t *bytes = malloc(MOST);
-    size_t len, at = 0;
-    if (bytes == NULL)
-        fail("no memory");
-    len = fread(bytes, 1, MOST, stdin);
-    while (HEADER <= len - at) {
-        struct stored_case c = read_case(bytes + at);
-        size_t left = len - at - HEADER;
-        if (left < c.table_len || left - c.table_len < c.goal_len || left - c.table_len - c.goal_len < c.weights_len)
-            fail("case cut short");
-        run_case(c);
-        at += HEADER + c.table_len + c.goal_len + c.weights_len;
-    }
-    free(bytes);
+    each_case(run_case);
     return 0;
 }

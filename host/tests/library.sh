@@ -22,15 +22,7 @@ try() {
     fi
 }
 
-if [ "$(uname -m)" = x86_64 ]; then
-    compiler=gcc
-    run=()
-    have gcc gcc libc6-dev
-else
-    compiler=x86_64-linux-gnu-gcc
-    run=(qemu-x86_64)
-    have x86_64-linux-gnu-gcc gcc-x86-64-linux-gnu libc6-dev-amd64-cross && have qemu-x86_64 qemu-user
-fi || give_up "there is no C compiler for x86-64 here, or nothing to run its programs, and it could not be installed"
+have_c || give_up "there is no C compiler for x86-64 here, or nothing to run its programs, and it could not be installed"
 rt staticlib gateway > "$made/log" 2>&1 || { cat "$made/log"; give_up "rt did not write the static library"; }
 
 build() {
@@ -39,7 +31,7 @@ build() {
 }
 
 replay() {
-    "${run[@]}" "$made/replay" < crates/vectors/stdin > "$made/stdout" && cmp "$made/stdout" crates/vectors/stdout
+    "${runner[@]}" "$made/replay" < crates/vectors/stdin > "$made/stdout" && cmp "$made/stdout" crates/vectors/stdout
 }
 
 try "building a C program with the library" build

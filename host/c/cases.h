@@ -1,0 +1,75 @@
+/*
+ * The stored cases of crates/vectors, read from the standard input. A case is its kind (C check, R run, W weigh), five words of 32 bits
+ * (the lengths of table, goal and weights, the step limit, the length of the answer buffer), then table, goal and weights.
+ */
+#ifndef CASES_H
+#define CASES_H
+
+#include <stddef.h>
+#include <stdint.h>
+#include <stdio.h>
+#include <stdlib.h>
+
+/* The length of a case's header, and the most bytes that the cases may have. */
+#define HEADER 21
+#define MOST (16ul * 1024 * 1024)
+
+static void fail(const char *what)
+{
+    printf("%s\n", what);
+    exit(1);
+}
+
+/* A case: its kind, and where its parts stand in the input. */
+struct stored_case {
+    uint8_t kind;
+    size_t table_len;
+    size_t goal_len;
+    size_t weights_len;
+    uint32_t limit;
+    size_t answer_len;
+    const uint8_t *table;
+    const uint8_t *goal;
+    const uint8_t *weights;
+};
+
+static uint32_t word_at(const uint8_t *bytes)
+{
+    return (uint32_t)bytes[0] | (uint32_t)bytes[1] << 8 | (uint32_t)bytes[2] << 16 | (uint32_t)bytes[3] << 24;
+}
+
+static struct stored_case read_case(const uint8_t *bytes)
+{
+    struct stored_case c;
+    c.kind = bytes[0];
+    c.table_len = word_at(bytes + 1);
+    c.goal_len = word_at(bytes + 5);
+    c.weights_len = word_at(bytes + 9);
+    c.limit = word_at(bytes + 13);
+    c.answer_len = word_at(bytes + 17);
+    c.table = bytes + HEADER;
+    c.goal = c.table + c.table_len;
+    c.weights = c.goal + c.goal_len;
+    return c;
+}
+
+/* Does this for each case of the standard input. */
+static void each_case(void (*visit)(struct stored_case))
+{
+    uint8_t *bytes = malloc(MOST);
+    size_t len, at = 0;
+    if (bytes == NULL)
+        fail("no memory");
+    len = fread(bytes, 1, MOST, stdin);
+    while (HEADER <= len - at) {
+        struct stored_case c = read_case(bytes + at);
+        size_t left = len - at - HEADER;
+        if (left < c.table_len || left - c.table_len < c.goal_len || left - c.table_len - c.goal_len < c.weights_len)
+            fail("case cut short");
+        visit(c);
+        at += HEADER + c.table_len + c.goal_len + c.weights_len;
+    }
+    free(bytes);
+}
+
+#endif
