@@ -7,12 +7,16 @@
 //! - [`reference`](crate::reference): the second engine, written to be read.
 //! - [`plain`]: a plain fast engine with the proved engine's scan, the yardstick for its speed.
 //! - [`build`]: tables and goals in readable form, for tests and examples.
+//! - [`example`]: programs in readable text, with goals and what they must leave.
+//! - [`ending`]: how a run ends, with what does not depend on the order of partners.
 //! - [`cases`]: random cases, good, damaged and near every limit.
 //! - [`verdict`]: everything that a call gives back for a case, and the reference's verdict.
 //! - `ffi`: the proved library through its C interface (feature `gateway`).
 
 pub mod build;
 pub mod cases;
+pub mod ending;
+pub mod example;
 #[cfg(feature = "gateway")]
 pub mod ffi;
 pub mod format;

@@ -45,7 +45,10 @@ fn named() -> Vec<(String, Vec<u8>)> {
         ("end-inside-a-record", [&table_a()[..6], &[8; 90]].concat()),
         ("goal-cut", [table_a(), readings[..53].to_vec()].concat()),
         ("as-long-as-can-be", zeros(LONGEST_INPUT)),
-        ("goal-too-long", [table_a(), zeros(LONGEST_INPUT - 72)].concat()),
+        (
+            "goal-too-long",
+            [table_a(), zeros(LONGEST_INPUT - 72)].concat(),
+        ),
         ("too-long", zeros(LONGEST_INPUT + 1)),
         ("far-too-long", zeros(100_000)),
     ];
