@@ -1,0 +1,69 @@
+//! The examples: both engines of this package leave what each example says, and do not depend on
+//! the order of the goal where the example says so.
+
+use nadhirukh_host::cases::random::Random;
+use nadhirukh_host::ending::Ending;
+use nadhirukh_host::example::{all, draw, goal_bytes, Example};
+use nadhirukh_host::format::ANSWER_LEN;
+use nadhirukh_host::reference::state::Fact;
+use nadhirukh_host::{plain, reference};
+
+/// The step limit of the program *run*.
+const LIMIT: u32 = 1_000_000;
+/// How many random goals each example is run on.
+const RANDOM: u64 = 200;
+
+/// The ending of a goal, on which both engines agree to the byte.
+fn ending(example: &Example, goal: &[Fact]) -> Ending {
+    let goal = goal_bytes(goal);
+    let mut answer = vec![0xA5; ANSWER_LEN];
+    let mut plain_answer = answer.clone();
+    let outcome = reference::run(&example.table, &goal, LIMIT, &mut answer);
+    let plain_outcome = plain::run(&example.table, &goal, LIMIT, &mut plain_answer);
+    assert_eq!(plain_outcome, outcome);
+    assert_eq!(plain_answer, answer);
+    Ending::of_run(&outcome, &answer)
+}
+
+/// Runs a test on each example, under its name.
+fn each(test: impl Fn(&str, &Example)) {
+    for (name, example) in all().expect("the examples can be read") {
+        test(&name, &example);
+    }
+}
+
+#[test]
+fn there_are_many_and_each_has_goals_of_both_sorts() {
+    assert!(all().expect("the examples can be read").len() >= 14);
+    each(|name, example| {
+        assert!(!example.goals.is_empty(), "{}", name);
+        assert!(!example.draws.is_empty(), "{}", name);
+    });
+}
+
+#[test]
+fn stored_goals_end_as_the_examples_say() {
+    each(|name, example| {
+        for stored in &example.goals {
+            let goal = example.tell_all(&stored.goal);
+            let found = ending(example, &stored.goal);
+            assert_eq!(found, stored.ending, "{}: goal {}", name, goal);
+        }
+    });
+}
+
+#[test]
+fn random_goals_end_alike_in_every_order() {
+    each(|name, example| {
+        for seed in 0..RANDOM {
+            let goal = draw::goal(&example.draws, seed);
+            let mut shuffled = goal.clone();
+            draw::shuffle(&mut shuffled, &mut Random::new(!seed));
+            let found = ending(example, &goal);
+            let told = example.tell_all(&goal);
+            assert_eq!(found, ending(example, &shuffled), "{}: {}", name, told);
+            // Running out of steps or room is no matter of the rules.
+            assert!([0, 1, 3, 4].contains(&found.number), "{}: {}", name, told);
+        }
+    });
+}
