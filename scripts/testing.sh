@@ -35,6 +35,15 @@ have_c() {
     fi
 }
 
+# What starts the program run, which is for x86-64: sets run. Elsewhere it is started under qemu, with Debian's C library for x86-64.
+have_run() {
+    run=(target/bin/run)
+    [ "$(uname -m)" = x86_64 ] && return
+    run=(qemu-x86_64 -L /usr/x86_64-linux-gnu target/bin/run)
+    have qemu-x86_64 qemu-user || return
+    [ -e /usr/x86_64-linux-gnu/lib64/ld-linux-x86-64.so.2 ] || have x86_64-linux-gnu-gcc gcc-x86-64-linux-gnu libc6-dev-amd64-cross
+}
+
 # Says why nothing was tried, and ends.
 give_up() {
     echo "$(basename "$0"): $*"

@@ -1,6 +1,5 @@
 #!/usr/bin/env bash
 # The program run, at the edges of its input and on random tables and goals, prints the lines of the second engine.
-# It is a program for x86-64: elsewhere it is run under qemu, with Debian's C library for x86-64.
 set -uo pipefail
 cd "$(dirname "$0")/../.." || exit 2
 . scripts/testing.sh
@@ -10,14 +9,7 @@ made=$(mktemp -d) || exit 2
 trap 'rm -rf "$made"' EXIT
 
 have_rust || give_up "there is no cargo here, and it could not be installed"
-if [ "$(uname -m)" = x86_64 ]; then
-    run=(target/bin/run)
-else
-    have qemu-x86_64 qemu-user || give_up "there is no qemu-x86_64 here, and it could not be installed"
-    [ -e /usr/x86_64-linux-gnu/lib64/ld-linux-x86-64.so.2 ] || have x86_64-linux-gnu-gcc gcc-x86-64-linux-gnu libc6-dev-amd64-cross ||
-        give_up "there is no C library for x86-64 here, and it could not be installed"
-    run=(qemu-x86_64 -L /usr/x86_64-linux-gnu target/bin/run)
-fi
+have_run || give_up "there is no qemu-x86_64 or no C library for x86-64 here, and it could not be installed"
 rt check run > "$made/log" 2>&1 || { cat "$made/log"; give_up "rt did not build the program"; }
 (cd host && cargo run --quiet --offline --release -j1 --bin lines -- "$made") || give_up "the second engine's lines were not written"
 
