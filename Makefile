@@ -1,5 +1,5 @@
 # Nadhirukh: a proved engine for Constraint Handling Rules over whole numbers.
-.PHONY: demo test lib memory fmt
+.PHONY: demo test lib memory swi fmt
 
 # Prove and build what there is, and run the main job on an example.
 demo:
@@ -17,6 +17,10 @@ lib:
 # The machine stack of the calls, over the stored cases, and the size of their code.
 memory:
 	@scripts/memory
+
+# Every example on SWI-Prolog's CHR library and on the proved engine; the last line is 'N passed, M failed'.
+swi:
+	@scripts/swi
 
 # Lay out every source and proof file.
 fmt:

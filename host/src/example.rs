@@ -100,15 +100,22 @@ impl Example {
     }
 }
 
+/// The folder of the examples whose result does not depend on the order of partners.
+pub const ANY_ORDER: &str = "examples";
+/// The folder of those whose result does.
+pub const BY_ORDER: &str = "examples/order";
+
 /// A goal's bytes.
 pub fn goal_bytes(goal: &[Fact]) -> Vec<u8> {
     let record = |fact: &Fact| build::goal_fact(fact.symbol.0, &fact.arguments);
     goal.iter().flat_map(record).collect()
 }
 
-/// The examples of the repository by name, sorted.
-pub fn all() -> io::Result<Vec<(String, Example)>> {
-    let folder = Path::new(env!("CARGO_MANIFEST_DIR")).join("../examples");
+/// The examples of a folder of the repository by name, sorted.
+pub fn in_folder(folder: &str) -> io::Result<Vec<(String, Example)>> {
+    let folder = Path::new(env!("CARGO_MANIFEST_DIR"))
+        .join("..")
+        .join(folder);
     let mut examples = Vec::new();
     for entry in fs::read_dir(folder)? {
         let path = entry?.path();

@@ -9,6 +9,7 @@
 //! - [`build`]: tables and goals in readable form, for tests and examples.
 //! - [`example`]: programs in readable text, with goals and what they must leave.
 //! - [`ending`]: how a run ends, with what does not depend on the order of partners.
+//! - [`swi`]: a table and goals as a program for SWI-Prolog's CHR library.
 //! - [`cases`]: random cases, good, damaged and near every limit.
 //! - [`verdict`]: everything that a call gives back for a case, and the reference's verdict.
 //! - `ffi`: the proved library through its C interface (feature `gateway`).
@@ -24,4 +25,5 @@ pub mod names;
 pub mod outcome;
 pub mod plain;
 pub mod reference;
+pub mod swi;
 pub mod verdict;

@@ -3,7 +3,7 @@
 
 use nadhirukh_host::cases::random::Random;
 use nadhirukh_host::ending::Ending;
-use nadhirukh_host::example::{all, draw, goal_bytes, Example};
+use nadhirukh_host::example::{draw, goal_bytes, in_folder, Example, ANY_ORDER, BY_ORDER};
 use nadhirukh_host::format::ANSWER_LEN;
 use nadhirukh_host::reference::state::Fact;
 use nadhirukh_host::{plain, reference};
@@ -25,17 +25,18 @@ fn ending(example: &Example, goal: &[Fact]) -> Ending {
     Ending::of_run(&outcome, &answer)
 }
 
-/// Runs a test on each example, under its name.
-fn each(test: impl Fn(&str, &Example)) {
-    for (name, example) in all().expect("the examples can be read") {
+/// Runs a test on each example of a folder, under its name.
+fn each(folder: &str, test: impl Fn(&str, &Example)) {
+    for (name, example) in in_folder(folder).expect("the examples can be read") {
         test(&name, &example);
     }
 }
 
 #[test]
 fn there_are_many_and_each_has_goals_of_both_sorts() {
-    assert!(all().expect("the examples can be read").len() >= 14);
-    each(|name, example| {
+    let examples = in_folder(ANY_ORDER).expect("the examples can be read");
+    assert!(examples.len() >= 14);
+    each(ANY_ORDER, |name, example| {
         assert!(!example.goals.is_empty(), "{}", name);
         assert!(!example.draws.is_empty(), "{}", name);
     });
@@ -43,18 +44,20 @@ fn there_are_many_and_each_has_goals_of_both_sorts() {
 
 #[test]
 fn stored_goals_end_as_the_examples_say() {
-    each(|name, example| {
+    let test = |name: &str, example: &Example| {
         for stored in &example.goals {
             let goal = example.tell_all(&stored.goal);
             let found = ending(example, &stored.goal);
             assert_eq!(found, stored.ending, "{}: goal {}", name, goal);
         }
-    });
+    };
+    each(ANY_ORDER, test);
+    each(BY_ORDER, test);
 }
 
 #[test]
 fn random_goals_end_alike_in_every_order() {
-    each(|name, example| {
+    each(ANY_ORDER, |name, example| {
         for seed in 0..RANDOM {
             let goal = draw::goal(&example.draws, seed);
             let mut shuffled = goal.clone();
