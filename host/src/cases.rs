@@ -5,6 +5,7 @@ pub mod corners;
 pub mod damage;
 pub mod edges;
 pub mod goals;
+pub mod one_headed;
 pub mod random;
 pub mod rules;
 pub mod tables;

@@ -1,7 +1,8 @@
-//! `swi FOLDER RUN..`: every example on SWI-Prolog's CHR library and on the proved program *run*,
-//! which the command RUN.. starts; programs for SWI-Prolog are left in the folder.
+//! `swi FOLDER RUN..`: every example, and random tables of one-headed rules, on SWI-Prolog's CHR
+//! library and on the proved program *run*, which the command RUN.. starts; programs for
+//! SWI-Prolog are left in the folder.
 //!
-//! Prints a line for each example and, last, `N passed, M failed`.
+//! Prints a line for each example, one for the random tables and, last, `N passed, M failed`.
 
 use std::env;
 use std::error::Error;
@@ -10,14 +11,23 @@ use std::io::Write;
 use std::path::Path;
 use std::process::{Command, ExitCode, Stdio};
 
+use nadhirukh_host::cases::random::Random;
+use nadhirukh_host::cases::{one_headed, Plan};
 use nadhirukh_host::ending::Ending;
-use nadhirukh_host::example::{goal_bytes, in_folder, Example, ANY_ORDER, BY_ORDER};
-use nadhirukh_host::reference::check;
+use nadhirukh_host::example::{goal_bytes, in_folder, Declared, Example, ANY_ORDER, BY_ORDER};
+use nadhirukh_host::format::ANSWER_LEN;
+use nadhirukh_host::plain;
 use nadhirukh_host::reference::state::Fact;
+use nadhirukh_host::reference::{check, goal};
 use nadhirukh_host::swi::{self, Arithmetic};
 
 /// How many random goals each example is run on, beside the stored ones.
 const RANDOM: u64 = 100;
+/// How many random tables there are, and goals for each.
+const TABLES: u64 = 40;
+const GOALS: usize = 25;
+/// The step limit of *run*.
+const LIMIT: u32 = 1_000_000;
 
 type Tried<T> = Result<T, Box<dyn Error>>;
 
@@ -34,37 +44,83 @@ fn main() -> ExitCode {
         Some((folder, run)) if !run.is_empty() => (Path::new(folder), run),
         _ => panic!("swi FOLDER RUN.."),
     };
-    let (mut passed, mut failed) = (0, 0);
+    let mut verdicts = vec![try_random_tables(folder, run)];
     for (examples, alike) in [(ANY_ORDER, true), (BY_ORDER, false)] {
         for (name, example) in in_folder(examples).expect("the examples can be read") {
-            let good = try_example(&name, &example, alike, folder, run);
-            passed += u32::from(good);
-            failed += u32::from(!good);
+            let goals = example.all_goals(RANDOM);
+            let compared = compare(&example, goals, &folder.join(&name), run);
+            verdicts.push(report(&name, &example, alike, compared));
         }
     }
+    let passed = verdicts.iter().filter(|good| **good).count();
+    let failed = verdicts.len() - passed;
     println!("{} passed, {} failed", passed, failed);
     ExitCode::from(u8::from(failed > 0))
 }
 
-/// Runs an example on both engines and prints what came of it.
-fn try_example(name: &str, example: &Example, alike: bool, folder: &Path, run: &[String]) -> bool {
-    match compare(example, &folder.join(format!("{}.pl", name)), run) {
-        Ok(compared) => report(name, example, alike, &compared),
-        Err(error) => {
-            println!("{}: {}", name, error);
-            false
+/// Random tables of one-headed rules; only goals that a run ends by the rules, and not for want
+/// of steps or room, which SWI-Prolog does not know.
+fn try_random_tables(folder: &Path, run: &[String]) -> bool {
+    let mut all = Vec::new();
+    for seed in 0..TABLES {
+        let mut random = Random::new(seed);
+        let plan = one_headed::table(&mut random);
+        let example = unnamed(&plan);
+        let goals = one_headed::goals(&mut random, &plan, GOALS);
+        let ended = goals
+            .iter()
+            .filter(|goal| ends_by_rules(&example.table, goal));
+        let goals = ended.map(|goal| read_goal(&example, goal)).collect();
+        let name = format!("one-headed-{}", seed);
+        match compare(&example, goals, &folder.join(&name), run) {
+            Ok(compared) if compared.iter().all(|run| run.proved == run.swi) => {
+                all.extend(compared)
+            }
+            compared => return report(&name, &example, true, compared),
         }
     }
+    let name = format!("{} random tables of one-headed rules", TABLES);
+    report(&name, &Example::default(), true, Ok(all))
+}
+
+/// A table without names: its symbols are called s0, s1, ..
+fn unnamed(plan: &Plan) -> Example {
+    let declared = |(at, arity): (usize, &u8)| Declared {
+        name: format!("s{}", at),
+        arity: usize::from(*arity),
+    };
+    Example {
+        symbols: plan.arities.iter().enumerate().map(declared).collect(),
+        table: plan.bytes(),
+        ..Example::default()
+    }
+}
+
+fn ends_by_rules(table: &[u8], goal: &[u8]) -> bool {
+    let outcome = plain::run(table, goal, LIMIT, &mut [0; ANSWER_LEN]);
+    matches!(outcome.number, 0 | 1 | 3 | 4)
+}
+
+fn read_goal(example: &Example, bytes: &[u8]) -> Vec<Fact> {
+    let table = check::read(&example.table).expect("a random table is good");
+    goal::read(bytes, &table).expect("a random goal is good")
 }
 
 /// Prints an example's line: whether the proved engine ends as stored, and SWI alike on every
 /// goal, or unlike on every one. Goals that go against this are shown, and all that must differ.
-fn report(name: &str, example: &Example, alike: bool, compared: &[Compared]) -> bool {
+fn report(name: &str, example: &Example, alike: bool, tried: Tried<Vec<Compared>>) -> bool {
+    let compared = match tried {
+        Ok(compared) => compared,
+        Err(error) => {
+            println!("{}: {}", name, error);
+            return false;
+        }
+    };
     let as_expected = |run: &&Compared| (run.proved == run.swi) == alike;
     let right = compared.iter().filter(as_expected).count();
     let word = if alike { "alike" } else { "unlike" };
     let goals = compared.len();
-    let numbers = numbers(compared);
+    let numbers = numbers(&compared);
     println!("{}: {} of {} goals {}{}", name, right, goals, word, numbers);
     let shown = compared.iter().filter(|run| !alike || !as_expected(run));
     for run in shown.take(5) {
@@ -72,7 +128,7 @@ fn report(name: &str, example: &Example, alike: bool, compared: &[Compared]) -> 
         println!("  proved {}", tell(example, &run.proved));
         println!("  SWI    {}", tell(example, &run.swi));
     }
-    let kept = ends_as_stored(example, compared);
+    let kept = ends_as_stored(example, &compared);
     if !kept {
         println!("  the proved engine does not end as the example says");
     }
@@ -106,9 +162,14 @@ fn tell(example: &Example, ending: &Ending) -> String {
     }
 }
 
-/// Runs all goals of an example on both engines.
-fn compare(example: &Example, file: &Path, run: &[String]) -> Tried<Vec<Compared>> {
-    let goals = example.all_goals(RANDOM);
+/// Runs goals of an example on both engines.
+fn compare(
+    example: &Example,
+    goals: Vec<Vec<Fact>>,
+    file: &Path,
+    run: &[String],
+) -> Tried<Vec<Compared>> {
+    let file = &file.with_extension("pl");
     let table = check::read(&example.table).expect("an example's table is good");
     fs::write(file, swi::program(&table, &goals, Arithmetic::Exact))?;
     let theirs = swi_endings(file)?;
@@ -129,11 +190,12 @@ fn swi_endings(file: &Path) -> Tried<Vec<Ending>> {
         .args(["-q", "-g", "main", "-t", "halt"])
         .arg(file)
         .stdin(Stdio::null())
-        .stderr(Stdio::inherit())
         .output()?;
     let printed = String::from_utf8(output.stdout)?;
     let endings = swi::endings(&printed).filter(|_| output.status.success());
-    endings.ok_or_else(|| "SWI-Prolog did not run to its end".into())
+    // Warnings are of no interest: random tables have rules that never fire.
+    let errors = String::from_utf8_lossy(&output.stderr);
+    endings.ok_or_else(|| format!("SWI-Prolog did not run to its end\n{}", errors).into())
 }
 
 /// The ending that the program *run* gives.
