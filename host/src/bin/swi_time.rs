@@ -24,10 +24,12 @@ use nadhirukh_host::swi::{self, Arithmetic};
 const LIMIT: u32 = 1_000_000;
 /// How many random goals the longest is looked for among, beside the stored ones.
 const RANDOM: u64 = 100;
-/// The least mean of so many batches counts, so that what else the machine does counts less.
-const BATCHES: u32 = 10;
+/// The least mean of a batch counts, over so many rounds of so many batches, so that what else the
+/// machine does counts less. A round times one side, then the other.
+const ROUNDS: u32 = 5;
+const BATCHES: u32 = 50;
 /// Runs of a batch.
-const RUNS: u32 = 200;
+const RUNS: u32 = 20;
 
 fn main() -> Result<(), Box<dyn Error>> {
     let folder = env::args().nth(1).ok_or("swi_time FOLDER")?;
@@ -35,8 +37,11 @@ fn main() -> Result<(), Box<dyn Error>> {
     for (name, example) in in_folder(ANY_ORDER)? {
         let (goal, outcome) = longest(&example);
         let file = Path::new(&folder).join(format!("time-{}.pl", name));
-        let theirs = swi_time(&example, &goal, &file)?;
-        let ours = proved_time(&example.table, &goal_bytes(&goal), outcome);
+        let (mut theirs, mut ours) = (f64::INFINITY, f64::INFINITY);
+        for _ in 0..ROUNDS {
+            theirs = theirs.min(swi_time(&example, &goal, &file)?);
+            ours = ours.min(proved_time(&example.table, &goal_bytes(&goal), outcome));
+        }
         println!(
             "{:12} {:5} {:6} {:7} {:9.1} {:9.1} {:6.1}",
             name,
