@@ -44,6 +44,32 @@ have_run() {
     [ -e /usr/x86_64-linux-gnu/lib64/ld-linux-x86-64.so.2 ] || have x86_64-linux-gnu-gcc gcc-x86-64-linux-gnu libc6-dev-amd64-cross
 }
 
+# The same for C++: sets cxx.
+have_cxx() {
+    if [ "$(uname -m)" = x86_64 ]; then
+        cxx=g++
+        have g++ g++
+    else
+        cxx=x86_64-linux-gnu-g++
+        have x86_64-linux-gnu-g++ g++-x86-64-linux-gnu
+    fi
+}
+
+# Writes target/staticlib/libgateway.a, and shows what rt says only where that fails.
+make_library() {
+    local log
+    log=$(rt staticlib gateway 2>&1) && return
+    echo "$log"
+    return 1
+}
+
+# link_c SOURCE PROGRAM [FLAG...]: builds a C program with the library. have_c and make_library come first.
+link_c() {
+    local source=$1 program=$2
+    shift 2
+    "$compiler" -std=c89 -pedantic-errors -Wall -Wextra -Werror -O2 -Iinclude "$@" "$source" target/staticlib/libgateway.a -o "$program"
+}
+
 # Says why nothing was tried, and ends.
 give_up() {
     echo "$(basename "$0"): $*"

@@ -1,6 +1,7 @@
 #!/usr/bin/env bash
-# The proved library through its C interface, linked into a C program: on the stored cases it prints the lines of the second engine.
-# The library is for x86-64. There the program is built and run as it is; elsewhere by a cross compiler and under qemu.
+# The proved library through its C interface, linked into C programs: on the stored cases one prints the lines of the second engine;
+# the gateway of host/gateway.c prints what is stored, as C and as C++.
+# The library is for x86-64. There the programs are built and run as they are; elsewhere by a cross compiler and under qemu.
 set -u
 cd "$(dirname "$0")/../.." || exit 2
 . scripts/testing.sh
@@ -23,18 +24,41 @@ try() {
 }
 
 have_c || give_up "there is no C compiler for x86-64 here, or nothing to run its programs, and it could not be installed"
-rt staticlib gateway > "$made/log" 2>&1 || { cat "$made/log"; give_up "rt did not write the static library"; }
-
-build() {
-    "$compiler" -std=c89 -pedantic-errors -Wall -Wextra -Werror -O2 -static -Iinclude host/c/replay.c target/staticlib/libgateway.a \
-        -o "$made/replay"
-}
+have_cxx || give_up "there is no C++ compiler for x86-64 here, and it could not be installed"
+make_library || give_up "rt did not write the static library"
 
 replay() {
     "${runner[@]}" "$made/replay" < crates/vectors/stdin > "$made/stdout" && cmp "$made/stdout" crates/vectors/stdout
 }
 
-try "building a C program with the library" build
+build_cxx() {
+    "$cxx" -x c++ -std=c++98 -pedantic-errors -Wall -Wextra -Werror -O2 -static -Iinclude host/gateway.c \
+        -x none target/staticlib/libgateway.a -o "$made/gateway-cxx"
+}
+
+# gateway PROGRAM: prints what is stored, and ends with status 0.
+gateway() {
+    "${runner[@]}" "$1" > "$made/stdout" && cmp "$made/stdout" host/gateway.stdout
+}
+
+# The numbers that the header lists.
+numbers() {
+    sed -nE 's/^ \*  +([0-9]+)  [a-z].*/\1/p' include/nadhirukh.h
+}
+
+# The gateway has words for every number of the header, and for no other.
+endings() {
+    numbers > "$made/numbers"
+    [ "$(wc -l < "$made/numbers")" -eq 24 ] || { echo "library.sh: include/nadhirukh.h does not list 24 numbers"; return 1; }
+    "${runner[@]}" "$made/gateway" endings > "$made/endings" && cut -d ' ' -f 1 "$made/endings" | cmp - "$made/numbers"
+}
+
+try "building a C program with the library" link_c host/c/replay.c "$made/replay" -static
 try "running the stored cases through the C interface" replay
+try "building the gateway as C" link_c host/gateway.c "$made/gateway" -static
+try "running the gateway" gateway "$made/gateway"
+try "words for every number" endings
+try "building the gateway as C++" build_cxx
+try "running the gateway built as C++" gateway "$made/gateway-cxx"
 echo "$passed passed, $failed failed"
 [ "$failed" -eq 0 ]
