@@ -1,5 +1,5 @@
 # Nadhirukh: a proved engine for Constraint Handling Rules over whole numbers.
-.PHONY: demo test lib memory swi fmt
+.PHONY: demo test soak lib memory swi fmt
 
 # Prove and build what there is, and run the main job on an example.
 demo:
@@ -8,6 +8,12 @@ demo:
 # The gate: every proof, must-fail edit, program and host test; the last line is 'N passed, M failed'.
 test:
 	@scripts/gate
+
+# Many more random cases through the C interface than the gate runs: make soak CASES=1000000 SEED=3 for others.
+CASES ?= 20000000
+SEED ?= 2
+soak:
+	@bash host/tests/compare.sh $(CASES) $(SEED)
 
 # The static library for C on x86-64, and how to link it.
 lib:

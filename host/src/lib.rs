@@ -12,6 +12,7 @@
 //! - [`swi`]: a table and goals as a program for SWI-Prolog's CHR library.
 //! - [`cases`]: random cases, good, damaged and near every limit.
 //! - [`verdict`]: everything that a call gives back for a case, and the reference's verdict.
+//! - [`stored`]: the form of stored cases, and the line that a program has to print for each.
 //! - `ffi`: the proved library through its C interface (feature `gateway`).
 
 pub mod build;
@@ -26,4 +27,5 @@ pub mod outcome;
 pub mod plain;
 pub mod reference;
 pub mod swi;
+pub mod stored;
 pub mod verdict;

@@ -1,121 +1,257 @@
-//! `compare N SEED`: the proved library against the reference on N random cases.
+//! `compare FOLDER CASES SEED PROGRAM [ARGUMENT...]`: random cases through the C interface.
 //!
-//! Prints how often each number occurred and, last, `N passed, M failed` over what it tested:
-//! the three calls, the tables at every edge, and that every number occurred.
+//! PROGRAM is `c/replay.c` linked with the proved library, perhaps behind an emulator. It gets the
+//! tables at every edge and then CASES random cases, a batch at a time in a file of FOLDER, and has
+//! to print the lines that the reference expects. Its own part is to lend every buffer between guard
+//! bytes, and to see that no call touches what it may not.
+//!
+//! Prints how far it is, how often each number occurred and, last, `N passed, M failed` over what
+//! it tested: the three calls, the tables at every edge, and that every number occurred.
 
 use std::env;
-use std::process::ExitCode;
+use std::fs::{self, File};
+use std::io;
+use std::path::{Path, PathBuf};
+use std::process::{Command, ExitCode};
+use std::sync::atomic::{AtomicU64, Ordering};
+use std::sync::Mutex;
+use std::thread;
+use std::time::{Duration, Instant};
 
 use nadhirukh_host::cases::{any_case, edges, Call, Case};
-use nadhirukh_host::ffi;
 use nadhirukh_host::outcome::{ENDINGS, REFUSALS};
-use nadhirukh_host::verdict;
+use nadhirukh_host::{stored, verdict};
 
-/// The cases and differences of one group.
-struct Group {
-    name: &'static str,
+/// Random cases in a batch.
+const BATCH: u64 = 500;
+/// How often a line says how far the comparison is.
+const PROGRESS: Duration = Duration::from_secs(10);
+/// How many differences are shown.
+const SHOWN: usize = 20;
+
+const GROUPS: [&str; 4] = ["check", "run", "weigh", "edges"];
+const EDGES: usize = 3;
+
+/// What is asked for.
+struct Request {
+    folder: PathBuf,
     cases: u64,
-    differences: u64,
+    seed: u64,
+    program: Vec<String>,
 }
 
-/// What was tested so far.
+/// A case, the group that it counts in, and the seed or number that it is found by.
+struct Sample {
+    group: usize,
+    seed: u64,
+    case: Case,
+}
+
+/// What was tested, of one batch or of all so far.
 struct Tally {
-    groups: Vec<Group>,
+    cases: [u64; GROUPS.len()],
+    differences: [u64; GROUPS.len()],
     /// How often each number occurred.
-    numbers: Vec<u64>,
+    numbers: [u64; 43],
+    /// What the first differences are.
+    complaints: Vec<String>,
+}
+
+/// All that was tested so far, and when.
+struct Progress {
+    tally: Tally,
+    start: Instant,
+    told: Instant,
 }
 
 fn main() -> ExitCode {
-    let mut arguments = env::args().skip(1);
-    let mut number = |otherwise: u64| match arguments.next() {
-        Some(text) => text.parse().expect("a whole number"),
-        None => otherwise,
-    };
-    let (cases, seed) = (number(100_000), number(1));
-    let mut tally = Tally::new();
-    tally.edges();
-    for at in 0..cases {
-        let seed = seed.wrapping_mul(1 << 32).wrapping_add(at);
-        let case = any_case(seed);
-        tally.compare(group_of(case.call), &case, seed);
-        if (at + 1) % 50_000 == 0 {
-            println!("{} of {} cases", at + 1, cases);
+    let request = Request::read().expect("compare FOLDER CASES SEED PROGRAM [ARGUMENT...]");
+    let progress = Mutex::new(Progress::new());
+    let next = AtomicU64::new(0);
+    let workers = thread::available_parallelism().map_or(1, usize::from);
+    thread::scope(|scope| {
+        for worker in 0..workers {
+            let (request, next, progress) = (&request, &next, &progress);
+            scope.spawn(move || work(request, worker, next, progress));
         }
-    }
-    tally.report()
+    });
+    let progress = progress.into_inner().expect("no worker gave up");
+    progress.tell(request.cases);
+    progress.tally.report(request.cases)
 }
 
-/// The group of a random case.
-fn group_of(call: Call) -> usize {
-    match call {
+impl Request {
+    fn read() -> Option<Request> {
+        let mut arguments = env::args().skip(1);
+        Some(Request {
+            folder: PathBuf::from(arguments.next()?),
+            cases: arguments.next()?.parse().ok()?,
+            seed: arguments.next()?.parse().ok()?,
+            program: Some(arguments.collect()).filter(|words: &Vec<_>| !words.is_empty())?,
+        })
+    }
+
+    /// A batch by its number, of which the first one is the edges; nothing behind the last one.
+    fn batch(&self, number: u64) -> Option<Vec<Sample>> {
+        if number == 0 {
+            return Some(edge_samples());
+        }
+        let first = (number - 1) * BATCH;
+        let last = self.cases.min(first + BATCH);
+        let sample = |at| random_sample(self.seed.wrapping_mul(1 << 32).wrapping_add(at));
+        (first < last).then(|| (first..last).map(sample).collect())
+    }
+}
+
+/// The tables at every edge, the longest ones included.
+fn edge_samples() -> Vec<Sample> {
+    let tables = edges::tables().into_iter().chain(edges::longest_tables(1));
+    let sample = |(at, table)| Sample {
+        group: EDGES,
+        seed: at as u64,
+        case: Case::check(table),
+    };
+    tables.enumerate().map(sample).collect()
+}
+
+fn random_sample(seed: u64) -> Sample {
+    let case = any_case(seed);
+    let group = match case.call {
         Call::Check => 0,
         Call::Run => 1,
         Call::Weigh => 2,
+    };
+    Sample { group, seed, case }
+}
+
+/// Takes batches until none is left.
+fn work(request: &Request, worker: usize, next: &AtomicU64, progress: &Mutex<Progress>) {
+    let file = request.folder.join(format!("cases-{}", worker));
+    while let Some(batch) = request.batch(next.fetch_add(1, Ordering::Relaxed)) {
+        let lines = printed(&request.program, &file, &batch).expect("the program can be started");
+        let tally = compare(&batch, &lines);
+        let mut progress = progress.lock().expect("no worker gave up");
+        progress.tally.add(tally);
+        if progress.told.elapsed() >= PROGRESS {
+            progress.tell(request.cases);
+            progress.told = Instant::now();
+        }
     }
 }
 
-const EDGES: usize = 3;
+/// The lines that the program prints for a batch, and one more where its status is not 0.
+fn printed(program: &[String], file: &Path, batch: &[Sample]) -> io::Result<Vec<String>> {
+    let mut bytes: Vec<u8> = Vec::new();
+    for sample in batch {
+        bytes.extend(stored::case(&sample.case));
+    }
+    bytes.push(stored::END);
+    fs::write(file, bytes)?;
+    let mut command = Command::new(&program[0]);
+    let output = command
+        .args(&program[1..])
+        .stdin(File::open(file)?)
+        .output()?;
+    let text = String::from_utf8_lossy(&output.stdout);
+    let mut lines: Vec<String> = text.lines().map(String::from).collect();
+    if !output.status.success() {
+        lines.push(format!("the program ended with {}", output.status));
+    }
+    Ok(lines)
+}
+
+/// Compares what was printed with what the reference expects, line by line.
+fn compare(batch: &[Sample], lines: &[String]) -> Tally {
+    let mut tally = Tally::new();
+    let mut lines = lines.iter();
+    for sample in batch {
+        let expected = verdict::reference(&sample.case);
+        tally.cases[sample.group] += 1;
+        tally.numbers[expected.outcome.number as usize] += 1;
+        let expected = stored::line(&sample.case, &expected);
+        let line = lines.next().map_or("nothing", String::as_str);
+        if line != expected {
+            tally.differ(sample, &format!("printed {}, expected {}", line, expected));
+        }
+    }
+    for line in lines {
+        let last = batch.last().expect("no batch is empty");
+        tally.differ(last, &format!("printed {} behind the last case", line));
+    }
+    tally
+}
 
 impl Tally {
     fn new() -> Tally {
-        let group = |name| Group {
-            name,
-            cases: 0,
-            differences: 0,
-        };
         Tally {
-            groups: ["check", "run", "weigh", "edges"].map(group).into(),
-            numbers: vec![0; 43],
+            cases: [0; GROUPS.len()],
+            differences: [0; GROUPS.len()],
+            numbers: [0; 43],
+            complaints: Vec::new(),
         }
     }
 
-    /// The tables at every edge, the longest ones included.
-    fn edges(&mut self) {
-        let tables = edges::tables().into_iter().chain(edges::longest_tables(1));
-        for (at, table) in tables.enumerate() {
-            self.compare(EDGES, &Case::check(table), at as u64);
-        }
-    }
-
-    /// Compares the library's verdict with the reference's.
-    fn compare(&mut self, group: usize, case: &Case, seed: u64) {
-        let expected = verdict::reference(case);
-        self.numbers[expected.outcome.number as usize] += 1;
-        let group = &mut self.groups[group];
-        group.cases += 1;
-        let complaint = match ffi::verdict(case) {
-            Ok(verdict) if verdict == expected => return,
-            Ok(verdict) => format!("{:?}, not {:?}", verdict.outcome, expected.outcome),
-            Err(complaint) => complaint,
+    /// Adds another one, and shows its complaints as long as few were shown.
+    fn add(&mut self, other: Tally) {
+        let sum = |to: &mut [u64], from: &[u64]| {
+            to.iter_mut().zip(from).for_each(|(a, b)| *a += b);
         };
-        group.differences += 1;
-        if group.differences <= 10 {
-            println!("{} case, seed {}: {}", group.name, seed, complaint);
+        sum(&mut self.cases, &other.cases);
+        sum(&mut self.differences, &other.differences);
+        sum(&mut self.numbers, &other.numbers);
+        for complaint in other.complaints {
+            if self.complaints.len() < SHOWN {
+                println!("{}", complaint);
+                self.complaints.push(complaint);
+            }
         }
     }
 
-    /// Prints the counts; the last line is `N passed, M failed` over the groups.
-    fn report(&self) -> ExitCode {
+    fn differ(&mut self, sample: &Sample, what: &str) {
+        self.differences[sample.group] += 1;
+        if self.complaints.len() < SHOWN {
+            let complaint = format!("{} case {}: {}", GROUPS[sample.group], sample.seed, what);
+            self.complaints.push(complaint);
+        }
+    }
+
+    fn random_cases(&self) -> u64 {
+        self.cases.iter().sum::<u64>() - self.cases[EDGES]
+    }
+
+    /// Prints the counts; the last line is `N passed, M failed` over the groups and the numbers.
+    fn report(&self, wanted: u64) -> ExitCode {
         let mut failed = 0;
-        for group in &self.groups {
-            println!(
-                "{}: {} cases, {} differ",
-                group.name, group.cases, group.differences
-            );
-            failed += usize::from(group.differences > 0 || group.cases == 0);
+        for (group, name) in GROUPS.iter().enumerate() {
+            let (cases, differences) = (self.cases[group], self.differences[group]);
+            println!("{}: {} cases, {} differ", name, cases, differences);
+            failed += usize::from(differences > 0 || cases == 0);
         }
-        let mut missing = false;
-        for number in ENDINGS.iter().chain(&REFUSALS) {
-            let count = self.numbers[*number as usize];
-            println!("number {}: {} times", number, count);
-            missing |= count == 0;
-        }
-        failed += usize::from(missing);
-        println!(
-            "{} passed, {} failed",
-            self.groups.len() + 1 - failed,
-            failed
-        );
+        let all = || ENDINGS.iter().chain(&REFUSALS);
+        let count = |number: &u32| self.numbers[*number as usize];
+        let counts: Vec<String> = all().map(|n| format!("{}: {}", n, count(n))).collect();
+        println!("how often each number occurred: {}", counts.join(", "));
+        let complete = self.random_cases() == wanted && all().all(|number| count(number) > 0);
+        failed += usize::from(!complete);
+        println!("{} passed, {} failed", GROUPS.len() + 1 - failed, failed);
         ExitCode::from(u8::from(failed > 0))
+    }
+}
+
+impl Progress {
+    fn new() -> Progress {
+        let now = Instant::now();
+        Progress {
+            tally: Tally::new(),
+            start: now,
+            told: now,
+        }
+    }
+
+    /// Says how far the comparison is, and how fast.
+    fn tell(&self, wanted: u64) {
+        let done = self.tally.random_cases();
+        let rate = done as f64 / self.start.elapsed().as_secs_f64();
+        println!("{} of {} cases, {:.0} a second", done, wanted, rate);
     }
 }

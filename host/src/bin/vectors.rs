@@ -2,9 +2,7 @@
 //! library. It writes `stdin`, the cases, and `stdout`, the lines that the reference expects.
 //! Groups are `check`, `goal`, `run` and `weigh`; without a name all of them are written.
 //!
-//! A case in `stdin` is a kind byte (`C`, `R` or `W`), five little-endian words (lengths of table,
-//! goal and weights, step limit, length of the answer buffer), then table, goal and weights. The
-//! file ends with one byte `.`. The answer buffer is full of 0xA5 before each run.
+//! [`stored`] says how they look.
 
 use std::env;
 use std::fs;
@@ -12,9 +10,8 @@ use std::io;
 use std::path::Path;
 
 use nadhirukh_host::cases::random::Random;
-use nadhirukh_host::cases::{self, edges, Call, Case};
-use nadhirukh_host::format::{ANSWER_LEN, STORED_RECORD_LEN};
-use nadhirukh_host::verdict::{self, Verdict, FILL};
+use nadhirukh_host::cases::{self, edges, Case};
+use nadhirukh_host::{stored, verdict};
 
 /// The seed of all groups; a group begins its own row of cases with it.
 const SEED: u64 = 2004;
@@ -71,13 +68,14 @@ fn main() -> io::Result<()> {
         let cases = group_cases(group);
         let before = input.len();
         for case in &cases {
-            input.extend(encode(case));
-            lines.push_str(&line(case, &verdict::reference(case)));
+            input.extend(stored::case(case));
+            lines += &stored::line(case, &verdict::reference(case));
+            lines.push('\n');
         }
         let bytes = input.len() - before;
         println!("{}: {} cases, {} bytes", group, cases.len(), bytes);
     }
-    input.push(b'.');
+    input.push(stored::END);
     fs::create_dir_all(&folder)?;
     fs::write(Path::new(&folder).join("stdin"), input)?;
     fs::write(Path::new(&folder).join("stdout"), lines)
@@ -129,62 +127,4 @@ fn pick(row: u64, quota: Quota, generate: fn(&mut Random) -> Case) -> Vec<Case> 
         }
     }
     found
-}
-
-/// A case's bytes.
-fn encode(case: &Case) -> Vec<u8> {
-    let mut bytes = vec![letter(case.call) as u8];
-    let words = [
-        case.table.len() as u32,
-        case.goal.len() as u32,
-        case.weights.len() as u32,
-        case.limit,
-        case.answer_len as u32,
-    ];
-    for word in words {
-        bytes.extend(word.to_le_bytes());
-    }
-    for part in [&case.table, &case.goal, &case.weights] {
-        bytes.extend(part);
-    }
-    bytes
-}
-
-/// The letter that a case and its line begin with.
-fn letter(call: Call) -> char {
-    match call {
-        Call::Check => 'C',
-        Call::Run => 'R',
-        Call::Weigh => 'W',
-    }
-}
-
-/// The line expected for a case.
-fn line(case: &Case, verdict: &Verdict) -> String {
-    let mut words = vec![letter(case.call).to_string()];
-    words.extend(verdict.outcome.numbers().iter().map(u32::to_string));
-    match case.call {
-        Call::Check => {}
-        Call::Run => words.extend(answer_words(verdict)),
-        Call::Weigh => words.extend(verdict.bound.iter().map(u32::to_string)),
-    }
-    words.join(" ") + "\n"
-}
-
-/// The records of a done run in hexadecimal, if there are any; then that all other bytes of the
-/// buffer keep what they held.
-fn answer_words(verdict: &Verdict) -> Vec<String> {
-    let stored = match verdict.outcome.number {
-        0 => verdict.outcome.stored as usize,
-        _ => 0,
-    };
-    assert!(stored * STORED_RECORD_LEN <= ANSWER_LEN);
-    let (records, behind) = verdict.answer.split_at(stored * STORED_RECORD_LEN);
-    assert!(behind.iter().all(|byte| *byte == FILL));
-    let mut words = Vec::new();
-    if stored > 0 {
-        words.push(records.iter().map(|byte| format!("{:02x}", byte)).collect());
-    }
-    words.push("keeps".to_string());
-    words
 }

@@ -1,0 +1,76 @@
+//! The form in which cases are stored and given to a program that calls the proved library, and
+//! the line that the program has to print for each.
+//!
+//! A case is a kind byte (`C`, `R` or `W`), five little-endian words (lengths of table, goal and
+//! weights, step limit, length of the answer buffer), then table, goal and weights. Behind the
+//! last case stands one byte `.`. The answer buffer is full of 0xA5 before each run.
+
+use crate::cases::{Call, Case};
+use crate::format::STORED_RECORD_LEN;
+use crate::verdict::{Verdict, FILL};
+
+/// The byte behind the last case.
+pub const END: u8 = b'.';
+
+/// A case's bytes.
+pub fn case(case: &Case) -> Vec<u8> {
+    let mut bytes = vec![letter(case.call) as u8];
+    let words = [
+        case.table.len() as u32,
+        case.goal.len() as u32,
+        case.weights.len() as u32,
+        case.limit,
+        case.answer_len as u32,
+    ];
+    for word in words {
+        bytes.extend(word.to_le_bytes());
+    }
+    for part in [&case.table, &case.goal, &case.weights] {
+        bytes.extend(part);
+    }
+    bytes
+}
+
+/// The line expected for a case.
+pub fn line(case: &Case, verdict: &Verdict) -> String {
+    let mut words = vec![letter(case.call).to_string()];
+    words.extend(verdict.outcome.numbers().iter().map(u32::to_string));
+    match case.call {
+        Call::Check => {}
+        Call::Run => words.extend(answer_words(verdict)),
+        Call::Weigh => words.extend(verdict.bound.iter().map(u32::to_string)),
+    }
+    words.join(" ")
+}
+
+/// The letter that a case and its line begin with.
+fn letter(call: Call) -> char {
+    match call {
+        Call::Check => 'C',
+        Call::Run => 'R',
+        Call::Weigh => 'W',
+    }
+}
+
+/// The records of a done run in hexadecimal, if there are any; then that all other bytes of the
+/// buffer keep what they held.
+fn answer_words(verdict: &Verdict) -> Vec<String> {
+    let stored = match verdict.outcome.number {
+        0 => verdict.outcome.stored as usize,
+        _ => 0,
+    };
+    let (records, behind) = verdict.answer.split_at(stored * STORED_RECORD_LEN);
+    assert!(behind.iter().all(|byte| *byte == FILL));
+    let mut words = Vec::new();
+    if stored > 0 {
+        words.push(hexadecimal(records));
+    }
+    words.push("keeps".to_string());
+    words
+}
+
+fn hexadecimal(bytes: &[u8]) -> String {
+    let digit = |four: u8| char::from(b"0123456789abcdef"[usize::from(four)]);
+    let digits = bytes.iter().flat_map(|byte| [byte >> 4, byte & 15]);
+    digits.map(digit).collect()
+}
