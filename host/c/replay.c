@@ -10,8 +10,13 @@
 #include "cases.h"
 #include "nadhirukh.h"
 
-/* Bytes before and after each buffer that no call may touch. */
+/*
+ * Bytes before and after each buffer that no call may touch. Under valgrind there are none: a buffer then is a block of its own, and a
+ * byte read beside it is found as well as one written.
+ */
+#ifndef GUARD
 #define GUARD 64
+#endif
 #define GUARD_BYTE 0x5A
 
 /* What each byte of the answer holds before a run. */
@@ -56,8 +61,9 @@ static struct lent lend_full(size_t len)
 static void take_back(struct lent lent)
 {
     uint8_t *all = lent.bytes - GUARD;
+    const size_t guard = GUARD;
     size_t i;
-    for (i = 0; i < GUARD; i++)
+    for (i = 0; i < guard; i++)
         if (all[i] != GUARD_BYTE || lent.bytes[lent.len + i] != GUARD_BYTE)
             fail("bytes around a buffer were changed");
     free(all);

@@ -1,7 +1,8 @@
 #!/usr/bin/env bash
 # The proved library through its C interface, linked into C programs: on the stored cases one prints the lines of the second engine;
-# the gateway of host/gateway.c prints what is stored, as C and as C++.
-# The library is for x86-64. There the programs are built and run as they are; elsewhere by a cross compiler and under qemu.
+# the gateway of host/gateway.c prints what is stored, as C and as C++; and valgrind finds no fault in either.
+# The library is for x86-64. There the programs are built and run as they are; elsewhere by a cross compiler and under qemu, and
+# without valgrind.
 set -u
 cd "$(dirname "$0")/../.." || exit 2
 . scripts/testing.sh
@@ -53,6 +54,25 @@ endings() {
     "${runner[@]}" "$made/gateway" endings > "$made/endings" && cut -d ' ' -f 1 "$made/endings" | cmp - "$made/numbers"
 }
 
+# Under valgrind programs are linked with the shared C library, since valgrind watches its allocations, and buffers have no guard
+# bytes, since it would take a read of those for a good one.
+valgrind_build() {
+    link_c host/c/replay.c "$made/replay-bare" -g -DGUARD=0 && link_c host/gateway.c "$made/gateway-shared" -g
+}
+
+# Finds reads and writes beside a block, decisions by bytes that were never written, and blocks that are not given back.
+watch() {
+    valgrind --quiet --error-exitcode=99 --leak-check=full --show-leak-kinds=all --errors-for-leak-kinds=all "$@"
+}
+
+watch_replay() {
+    watch "$made/replay-bare" < crates/vectors/stdin > "$made/stdout" && cmp "$made/stdout" crates/vectors/stdout
+}
+
+watch_gateway() {
+    watch "$made/gateway-shared" > "$made/stdout" && cmp "$made/stdout" host/gateway.stdout
+}
+
 try "building a C program with the library" link_c host/c/replay.c "$made/replay" -static
 try "running the stored cases through the C interface" replay
 try "building the gateway as C" link_c host/gateway.c "$made/gateway" -static
@@ -60,5 +80,13 @@ try "running the gateway" gateway "$made/gateway"
 try "words for every number" endings
 try "building the gateway as C++" build_cxx
 try "running the gateway built as C++" gateway "$made/gateway-cxx"
+if [ "$(uname -m)" = x86_64 ]; then
+    have valgrind valgrind libc6-dbg || echo "library.sh: there is no valgrind here, and it could not be installed"
+    try "building programs for valgrind" valgrind_build
+    try "the stored cases under valgrind" watch_replay
+    try "the gateway under valgrind" watch_gateway
+else
+    echo "library.sh: valgrind is left out, since it runs programs of its own machine alone; nothing is counted for it"
+fi
 echo "$passed passed, $failed failed"
 [ "$failed" -eq 0 ]
