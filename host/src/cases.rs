@@ -5,8 +5,12 @@ pub mod corners;
 pub mod damage;
 pub mod edges;
 pub mod goals;
+pub mod joins;
+pub mod long;
 pub mod one_headed;
 pub mod random;
+pub mod readings;
+pub mod rooms;
 pub mod rules;
 pub mod tables;
 
@@ -62,13 +66,28 @@ impl Plan {
 /// A case of any sort.
 pub fn any_case(seed: u64) -> Case {
     let mut random = Random::new(seed);
-    match random.below(100) {
-        0..=24 => check_case(&mut random),
-        25..=29 => edge_case(&mut random),
-        30..=39 => refused_run_case(&mut random),
-        40..=74 => run_case(&mut random),
-        _ => weigh_case(&mut random),
+    match random.below(200) {
+        0..=45 => check_case(&mut random),
+        46..=51 => edge_case(&mut random),
+        52..=70 => refused_run_case(&mut random),
+        71..=132 => run_case(&mut random),
+        133..=170 => weigh_case(&mut random),
+        171..=198 => scene_case(&mut random),
+        _ => long::case(&mut random),
     }
+}
+
+/// A run that is made to reach what random tables seldom reach: the last place of a room, rules
+/// with many heads that fire, goals of 64 facts.
+pub fn scene_case(random: &mut Random) -> Case {
+    let mut case = match random.below(28) {
+        0..=4 => rooms::case(random),
+        5..=18 => joins::case(random),
+        _ => readings::case(random),
+    };
+    let outcome = plain_outcome(&case);
+    case.limit = limit_near(random, case.limit, outcome);
+    case
 }
 
 /// A table to check: mostly a damaged one.

@@ -1,10 +1,12 @@
 //! Many random cases: the two engines of this package agree, and every number occurs.
 
+use std::collections::BTreeMap;
+
 use nadhirukh_host::cases::random::Random;
-use nadhirukh_host::cases::{any_case, edges, run_case, Call, Case};
+use nadhirukh_host::cases::{any_case, edges, long, run_case, Call, Case};
 use nadhirukh_host::outcome::{ENDINGS, REFUSALS};
 use nadhirukh_host::reference::run::{admit, run_read};
-use nadhirukh_host::reference::step::Pruning;
+use nadhirukh_host::reference::step::{Pruning, Step};
 use nadhirukh_host::verdict::{self, Verdict, FILL};
 use nadhirukh_host::{format, plain, reference};
 
@@ -95,4 +97,57 @@ fn pruning_the_history_changes_no_step() {
         "pruning dropped entries in {} runs",
         compared
     );
+}
+
+/// What a run reaches of what random runs seldom reach.
+fn reached(case: &Case) -> Vec<String> {
+    let admitted = admit(&case.table, &case.goal, case.limit, case.answer_len);
+    let (table, goal) = match admitted {
+        Ok(read) if case.call == Call::Run => read,
+        _ => return Vec::new(),
+    };
+    let (mut stack, mut history) = (0, 0);
+    let mut found = Vec::new();
+    let (outcome, _) = run_read(&table, &goal, case.limit, Pruning::Prune, |step, state| {
+        stack = stack.max(state.stack.len());
+        history = history.max(state.history.len());
+        if let Step::Simplify(firing) | Step::Propagate(firing) = step {
+            let heads = firing.identifiers.len();
+            let kept = table.rule(firing.rule).kept;
+            found.push(format!("a firing, {} of {} heads kept", kept, heads));
+        }
+    });
+    let done = outcome.number == 0;
+    let others = [
+        ("done, 128 facts stored", done && outcome.stored == 128),
+        ("done, 256 entries on the stack", done && stack == 256),
+        ("done, 256 entries in the history", done && history == 256),
+        ("done, 64 facts in the goal", done && goal.len() == 64),
+        ("over 10,000 steps", outcome.steps > 10_000),
+    ];
+    let others = others.iter().filter(|(_, holds)| *holds);
+    found.extend(others.map(|(what, _)| what.to_string()));
+    found.sort();
+    found.dedup();
+    found
+}
+
+#[test]
+fn random_runs_reach_the_end_of_every_room_and_fire_rules_of_every_shape() {
+    let mut seen = BTreeMap::new();
+    for seed in 0..CASES {
+        for what in reached(&any_case(seed)) {
+            *seen.entry(what).or_insert(0) += 1;
+        }
+    }
+    // One to four heads with none to all of them kept, and the five others.
+    assert_eq!(seen.len(), 2 + 3 + 4 + 5 + 5, "{:?}", seen);
+    assert!(seen.values().all(|count| *count >= 20), "{:?}", seen);
+}
+
+#[test]
+fn a_long_run_gives_more_identifiers_than_16_bits_hold() {
+    let cases = (0..200).map(|seed| long::case(&mut Random::new(seed)));
+    let identifiers = |case: Case| verdict::reference(&case).outcome.identifiers;
+    assert!(cases.map(identifiers).any(|given| given > 65_536));
 }
