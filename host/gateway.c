@@ -405,7 +405,7 @@ static struct report run(struct gateway *gateway, const struct rules *rules, con
     return report;
 }
 
-/* Prints what came of a run, and whether it was done. */
+/* Prints what came of a run, and returns whether it was done. */
 static int print_report(const struct report *report)
 {
     const uint32_t *result = report->result;

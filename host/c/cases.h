@@ -14,9 +14,10 @@
 #define HEADER 21
 #define MOST (16ul * 1024 * 1024)
 
+/* Ends the line, and the program, by saying what is wrong. */
 static void fail(const char *what)
 {
-    printf("%s\n", what);
+    printf(" %s\n", what);
     exit(1);
 }
 

@@ -1,7 +1,7 @@
 /*
  * Runs the stored cases of the standard input (crates/vectors/stdin) through the C interface and prints a line for each, as the
  * program of crates/vectors does: the lines expected are the same file. Every buffer is lent between guard bytes, and where a call
- * touches what it may not, a line says so and the status is 1.
+ * touches what it may not, its line says so and the status is 1.
  */
 #include <stdio.h>
 #include <stdlib.h>
@@ -119,8 +119,8 @@ static void check(struct stored_case c)
     number = nadhirukh_check(table.bytes, table.len, result.row + NADHIRUKH_RESULT);
     printf("C");
     print_result(&result, number);
-    printf("\n");
     take_back_kept(table, c.table);
+    printf("\n");
 }
 
 /* Prints the records that a run wrote, and whether all other bytes are as they were. */
@@ -152,10 +152,10 @@ static void run(struct stored_case c)
     printf("R");
     print_result(&result, number);
     print_answer(answer, &result);
-    printf("\n");
     take_back_kept(table, c.table);
     take_back_kept(goal, c.goal);
     take_back(answer);
+    printf("\n");
 }
 
 static void weigh(struct stored_case c)
@@ -172,10 +172,10 @@ static void weigh(struct stored_case c)
     printf("W");
     print_result(&result, number);
     print_words(&bound, NADHIRUKH_BOUND);
-    printf("\n");
     take_back_kept(table, c.table);
     take_back_kept(goal, c.goal);
     take_back_kept(weights, c.weights);
+    printf("\n");
 }
 
 static void run_case(struct stored_case c)
@@ -197,6 +197,8 @@ static void run_case(struct stored_case c)
 
 int main(void)
 {
+    /* Line by line, so that after a crash the last line tells which case it was. */
+    setvbuf(stdout, NULL, _IOLBF, BUFSIZ);
     each_case(run_case);
     return 0;
 }
