@@ -1,104 +1,148 @@
--- Weights that the search finds are accepted by weighing: there is one for each symbol, none is zero, since a raise only adds, and every rule loses
--- weight, since the search ends with the test that finds no other rule. The result is one alone.
-use Prim.Native.Nat.{ℕ, zero, suc, _+_, _≤_}
-use mathlib.Core.Path.{_≡_, refl, sym, ap, _∙_}
-use mathlib.Core.Bool.{Bool, true, false, cond}
-use mathlib.Core.Option.{Option, none, some}
+-- What a search ends with. Weights that it finds are accepted by weighing: there is one for each symbol, none is zero, and every rule loses weight. A
+-- rule at which it stops cannot be raised: its raises are never used up, since each adds at least 1 to a sum of at most 255 a symbol, which began at 1 a
+-- symbol. Asks that each removed head's symbol is declared and that there are at most 32 symbols, as in a good table.
+use Prim.Native.Nat.{ℕ, zero, suc, _+_, _*_, _<_, _≤_}
+use mathlib.Core.Path.{_≡_, refl, _∙_}
+use mathlib.Core.Option.{none, some}
 use mathlib.Core.List.{List, [], _∷_}
 use native.Mathlib.Omega.{arith}
-use lib.Dec.{leb}
 use lib.ListN.{length, getD, set, replicate, length-set, length-replicate}
-use borrow.Author.Tests.{eq-eqb}
-use Rattle.model.specs.declared.Verdict.the-variants.{Good}
-use Rattle.model.specs.Reading.{readOf}
-use Rattle.model.specs.Table.{Head, Rule, noRule, tableOf}
-use Rattle.model.specs.Goal.{goalVerdict}
+use Rattle.model.specs.Table.{Head, Rule, noRule}
 use Rattle.model.specs.Weights.{weightIn, firstZero, firstHeavy}
-use Rattle.model.specs.Calls.{weighGoal, weighRules, weighZero, weighCount, weighTable, weighOf}
+use Rattle.model.proofs.Every.{every, every-at}
 use Rattle.weights.specs.declared.Change.{Change}
 use Rattle.weights.specs.declared.Change.the-variants.{To, Nothing}
-use Rattle.weights.specs.Search.{raiseBy, raiseOf, Sought, raiseThen, heavyThen, searchFrom, searchOf}
+use Rattle.weights.specs.Search.{raiseOf, mostRaises, Sought, found, stopped, searchFrom, searchOf}
+use Rattle.weights.proofs.Ends.{Heavy, RaisedBy, lack, raised, heavy-at, Keeps, Found, Stopped, Ends, ends}
+
+-- ---- what holds of each weight, by its symbol
+
+module _ (ws : List ℕ) where
+  abbrev pub Each : (ℕ → ℕ → Type 0) → Type 0
+  Each Q = (i : ℕ) → Q i (getD ws i 1)
+
+pub set-each : (Q : ℕ → ℕ → Type 0) (ws : List ℕ) (s x : ℕ) → Each ws Q → Q s x → Each (set ws s x) Q
+set-each Q [] s x p h i = p i
+set-each Q (w ∷ ws) zero x p h zero = h
+set-each Q (w ∷ ws) zero x p h (suc i) = p (suc i)
+set-each Q (w ∷ ws) (suc s) x p h zero = p 0
+set-each Q (w ∷ ws) (suc s) x p h (suc i) = set-each (λ j. Q (suc j)) ws s x (λ j. p (suc j)) h i
+
+pub ones-each : (Q : ℕ → ℕ → Type 0) (n : ℕ) → ((i : ℕ) → Q i 1) → Each (replicate n 1) Q
+ones-each Q zero h i = h i
+ones-each Q (suc n) h zero = h 0
+ones-each Q (suc n) h (suc i) = ones-each (λ j. Q (suc j)) n (λ j. h (suc j)) i
+
+-- a weight from 1 to 255
+pub record Weight (i w : ℕ) : Type 0 where
+  pub low : 1 ≤ w
+  pub high : w ≤ 255
+
+no-zero : (k : ℕ) (ws : List ℕ) → Each ws Weight → firstZero k ws ≡ none
+unfolding firstZero
+no-zero k [] p = refl
+no-zero k (zero ∷ ws) p = absurd (omega (arith, p 0 .low))
+no-zero k (suc n ∷ ws) p = no-zero (suc k) ws (λ i. record { low = p (suc i) .low; high = p (suc i) .high })
+
+-- ---- the sum of the weights
+
+unfoldable pub total : List ℕ → ℕ
+total [] = 0
+total (w ∷ ws) = w + total ws
+
+total-set : (ws : List ℕ) (s x : ℕ) → s < length ws → total (set ws s x) + getD ws s 1 ≡ total ws + x
+unfolding total
+total-set [] s x h = absurd (omega arith)
+total-set (w ∷ ws) zero x h = omega arith
+total-set (w ∷ ws) (suc s) x h = omega (arith, total-set ws s x (omega arith))
+
+total-few : (ws : List ℕ) → Each ws Weight → total ws ≤ 255 * length ws
+unfolding total
+total-few [] p = omega arith
+total-few (w ∷ ws) p = omega (arith, p 0 .high, total-few ws (λ i. record { low = p (suc i) .low; high = p (suc i) .high }))
+
+total-ones : (n : ℕ) → total (replicate n 1) ≡ n
+unfolding total
+total-ones zero = refl
+total-ones (suc n) = omega (arith, total-ones n)
+
+-- ---- what each raise keeps
+
+-- each removed head's symbol is declared
+abbrev pub Declared : List Rule → ℕ → Type 0
+Declared rules symbols = every (λ (r : Rule). every (λ (h : Head). h .symbol .0 < symbols) (r .removed)) rules
+
+-- there is a weight for each symbol, and the raises left make up for what the sum lacks
+pub record Kept (symbols n : ℕ) (ws : List ℕ) : Type 0 where
+  pub long : length ws ≡ symbols
+  pub weights : Each ws Weight
+  pub room : 255 * symbols ≤ total ws + n
+
+module _ (rules : List Rule) (symbols : ℕ) (declared : Declared rules symbols) where
+  -- a raise is of a declared symbol, and adds something
+  record Adds (ws : List ℕ) (s x : ℕ) : Type 0 where
+    inside : s < length ws
+    more : getD ws s 1 < x
+    small : x ≤ 255
+
+  adds : (ws : List ℕ) (r s x : ℕ) → length ws ≡ symbols → Heavy (weightIn ws) rules r → raiseOf ws (getD rules r noRule) ≡ To s x → Adds ws s x
+  adds ws r s x l h e =
+      let d = raised ws (getD rules r noRule) s x e in
+      let all = every-at (λ (r : Rule). every (λ (h : Head). h .symbol .0 < symbols) (r .removed)) rules r noRule declared (h .inside) in
+      let first : every (λ (h : Head). h .symbol .0 < symbols) (d .head ∷ d .rest) = rw (d .first) at all in
+      record { inside = omega (arith, first .0, d .symbol); more = omega (arith, h .weighs, d .weight); small = d .small }
+
+  module _ (n : ℕ) (ws : List ℕ) (r s x : ℕ) (k : Kept symbols (suc n) ws) (h : Heavy (weightIn ws) rules r) (e : raiseOf ws (getD rules r noRule) ≡ To s x) where
+    pub raise-keeps : Kept symbols n (set ws s x)
+    raise-keeps =
+        let a = adds ws r s x (k .long) h e in
+        record {
+          long = length-set ws s x ∙ k .long;
+          weights = set-each Weight ws s x (k .weights) (record { low = omega (arith, a .more); high = a .small });
+          room = omega (arith, k .room, a .more, total-set ws s x (a .inside));
+        }
+
+  -- with no raise left all weights are 255, so that none can be raised
+  pub all-raised : (ws : List ℕ) (r s x : ℕ) → Kept symbols 0 ws → Heavy (weightIn ws) rules r → raiseOf ws (getD rules r noRule) ≡ To s x → ⊥
+  all-raised ws r s x k h e =
+      let a = adds ws r s x (k .long) h e in
+      let few = total-few (set ws s x) (set-each Weight ws s x (k .weights) (record { low = omega (arith, a .more); high = a .small })) in
+      omega (arith, few, k .room, a .more, total-set ws s x (a .inside), length-set ws s x, k .long)
+
+pub ones-kept : (symbols : ℕ) → symbols ≤ 32 → Kept symbols mostRaises (replicate symbols 1)
+ones-kept symbols h = record {
+  long = length-replicate {A = ℕ} symbols 1;
+  weights = ones-each Weight symbols (λ i. record { low = omega arith; high = omega arith });
+  room = omega (arith, total-ones symbols);
+}
+
+-- ---- the end
 
 pub record Accepted (rules : List Rule) (symbols : ℕ) (ws : List ℕ) : Type 0 where
   pub long : length ws ≡ symbols
   pub something : firstZero 0 ws ≡ none
   pub loses : firstHeavy (weightIn ws) 0 rules ≡ none
 
--- ---- no weight is zero
+-- with these weights r is the first rule that does not lose weight, and it cannot be raised
+pub record Stuck (rules : List Rule) (r : ℕ) (ws : List ℕ) : Type 0 where
+  pub heavy : firstHeavy (weightIn ws) 0 rules ≡ some r
+  pub full : raiseOf ws (getD rules r noRule) ≡ Nothing
 
-abbrev Positive : List ℕ → Type 0
-Positive ws = (i : ℕ) → 1 ≤ getD ws i 1
+abbrev pub Settled : List Rule → ℕ → Sought → Type 0
+Settled rules symbols (found ws) = Accepted rules symbols ws
+Settled rules symbols (stopped r ws) = Stuck rules r ws
 
-no-zero : (k : ℕ) (ws : List ℕ) → Positive ws → firstZero k ws ≡ none
-unfolding firstZero
-no-zero k [] p = refl
-no-zero k (zero ∷ ws) p = absurd (omega (arith, p 0))
-no-zero k (suc n ∷ ws) p = no-zero (suc k) ws (λ i. p (suc i))
+module _ (rules : List Rule) (symbols : ℕ) (declared : Declared rules symbols) (few : symbols ≤ 32) where
+  settled : (o : Sought) → Ends rules (Kept symbols) o → Settled rules symbols o
+  settled (found ws) e = record { long = e .kept .long; something = no-zero 0 ws (e .kept .weights); loses = e .loses }
+  settled (stopped r ws) e = record { heavy = e .heavy; full = go (raiseOf ws (getD rules r noRule)) refl }
+    where
+      go : (c : Change) → raiseOf ws (getD rules r noRule) ≡ c → raiseOf ws (getD rules r noRule) ≡ Nothing
+      go (To s x) q =
+          let none-left : Kept symbols 0 ws = rw (e .stuck s x q) at (e .kept) in
+          absurd (all-raised rules symbols declared ws r s x none-left (heavy-at (weightIn ws) rules r (e .heavy)) q)
+      go Nothing q = q
 
-set-positive : (ws : List ℕ) (s x i : ℕ) → Positive ws → 1 ≤ x → 1 ≤ getD (set ws s x) i 1
-set-positive [] s x i p h = p i
-set-positive (w ∷ ws) zero x zero p h = h
-set-positive (w ∷ ws) zero x (suc i) p h = p (suc i)
-set-positive (w ∷ ws) (suc s) x zero p h = p 0
-set-positive (w ∷ ws) (suc s) x (suc i) p h = set-positive ws s x i (λ j. p (suc j)) h
-
-ones-positive : (n : ℕ) → Positive (replicate n 1)
-ones-positive zero i = omega arith
-ones-positive (suc n) zero = omega arith
-ones-positive (suc n) (suc i) = ones-positive n i
-
-abbrev Raises : Change → Type 0
-Raises (To s x) = 1 ≤ x
-Raises Nothing = Unit {0}
-
-raise-positive : (ws : List ℕ) (d : ℕ) (hs : List Head) → Positive ws → Raises (raiseBy ws d hs)
-unfolding raiseBy
-raise-positive ws d [] p = tt
-raise-positive ws d (h ∷ hs) p = go (leb (weightIn ws (h .symbol) + d) 255)
-  where
-    go : (b : Bool) → Raises (cond b (To (h .symbol .0) (weightIn ws (h .symbol) + d)) Nothing)
-    go true = omega (arith, p (h .symbol .0))
-    go false = tt
-
--- ---- the search
-
-abbrev Says : List Rule → ℕ → Sought → Type 0
-Says rules symbols o = o .found ≡ true → Accepted rules symbols (o .weights)
-
-module _ (rules : List Rule) (symbols : ℕ) where
-  abbrev Later : ℕ → Type 0
-  Later n = (ws : List ℕ) → length ws ≡ symbols → Positive ws → Says rules symbols (searchFrom n rules ws)
-
-  module _ (n : ℕ) (ws : List ℕ) (l : length ws ≡ symbols) (p : Positive ws) (later : Later n) where
-    raise-says : (c : Change) → Raises c → Says rules symbols (raiseThen ws (searchFrom n rules) c)
-    unfolding raiseThen
-    raise-says (To s x) h = later (set ws s x) (length-set ws s x ∙ l) (λ i. set-positive ws s x i p h)
-    raise-says Nothing h = λ e. absurd (let z : _≡_ {A = ℕ} 0 1 = cc in omega arith)
-
-    heavy-says : (o : Option ℕ) → firstHeavy (weightIn ws) 0 rules ≡ o → Says rules symbols (heavyThen rules ws (searchFrom n rules) o)
-    unfolding heavyThen raiseOf
-    heavy-says none q = λ e. record { long = l; something = no-zero 0 ws p; loses = q }
-    heavy-says (some r) q = raise-says (raiseOf ws (getD rules r noRule)) (raise-positive ws _ (getD rules r noRule .removed) p)
-
-  search-says : (n : ℕ) → Later n
-  unfolding searchFrom
-  search-says zero ws l p = λ e. absurd (let z : _≡_ {A = ℕ} 0 1 = cc in omega arith)
-  search-says (suc n) ws l p = heavy-says n ws l p (search-says n) (firstHeavy (weightIn ws) 0 rules) refl
-
-  pub found-accepted : searchOf rules symbols .found ≡ true → Accepted rules symbols (searchOf rules symbols .weights)
+  pub search-settles : Settled rules symbols (searchOf rules symbols)
   unfolding searchOf
-  found-accepted = search-says 8129 (replicate symbols 1) (length-replicate {A = ℕ} symbols 1) (ones-positive symbols)
-
--- ---- what weighing says of them: none of 40, 41, 42
-
-pub weigh-accepts : (t ws g : List ℕ) → readOf t .verdict ≡ Good → Accepted (tableOf t .rules) (readOf t .symbols) ws
-    → weighOf t ws g ≡ weighGoal t ws g (goalVerdict t (readOf t .symbols) g)
-unfolding weighOf
-weigh-accepts t ws g e a =
-    ap (weighTable t ws g) e
-    ∙ ap (weighCount t ws g) (eq-eqb (length ws) (readOf t .symbols) (a .long))
-    ∙ ap (weighZero t ws g) (a .something)
-    ∙ ap (weighRules t ws g) (a .loses)
-
-pub one-search : (rules : List Rule) (symbols : ℕ) (r q : Sought) → r ≡ searchOf rules symbols → q ≡ searchOf rules symbols → r ≡ q
-one-search rules symbols r q e d = e ∙ sym d
+  search-settles = settled (searchFrom mostRaises rules (replicate symbols 1)) (ends rules (Kept symbols) (raise-keeps rules symbols declared) mostRaises (replicate symbols 1) (ones-kept symbols few))

@@ -1,3 +1,6 @@
+pub mod Ends
 pub mod Raising
+pub mod Finding
 pub mod Accepted
+pub mod Promise
 pub mod Worked

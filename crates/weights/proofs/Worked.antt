@@ -1,12 +1,11 @@
 -- Two tables, worked: weights are found for `a <=> b, b`, and none for `a, b <=> a, a`, though 1 and 2 make it lose weight.
 use Prim.Native.Nat.{ℕ}
 use mathlib.Core.Path.{_≡_, refl}
-use mathlib.Core.Bool.{true, false}
 use mathlib.Core.Option.{none}
 use mathlib.Core.List.{List, [], _∷_}
 use Rattle.model.specs.Table.{Head, Rule, BodyItem, bodyFact}
 use Rattle.model.specs.Weights.{weightIn, headsWeight, bodyWeight, firstHeavy}
-use Rattle.weights.specs.Search.{raiseBy, raiseOf, raiseThen, heavyThen, searchFrom, searchOf}
+use Rattle.weights.specs.Search.{raiseBy, raiseOf, found, stopped, raiseThen, heavyThen, searchFrom, searchOf}
 
 abbrev pub head : ℕ → Head
 head s = record { symbol = record { 0 = s }; slots = [] }
@@ -17,11 +16,11 @@ fact s = bodyFact (record { 0 = s }) []
 abbrev pub simplifies : List Head → List BodyItem → List Rule
 simplifies hs is = record { kept = []; removed = hs; guards = []; body = is } ∷ []
 
-pub found : searchOf (simplifies (head 0 ∷ []) (fact 1 ∷ fact 1 ∷ [])) 2 ≡ record { found = true; weights = 3 ∷ 1 ∷ [] }
+pub raised : searchOf (simplifies (head 0 ∷ []) (fact 1 ∷ fact 1 ∷ [])) 2 ≡ found (3 ∷ 1 ∷ [])
 unfolding searchOf searchFrom heavyThen raiseThen raiseOf raiseBy firstHeavy headsWeight bodyWeight
-found = refl
+raised = refl
 
-pub missed : searchOf (simplifies (head 0 ∷ head 1 ∷ []) (fact 0 ∷ fact 0 ∷ [])) 2 .found ≡ false
+pub missed : searchOf (simplifies (head 0 ∷ head 1 ∷ []) (fact 0 ∷ fact 0 ∷ [])) 2 ≡ stopped 0 (128 ∷ 1 ∷ [])
 unfolding searchOf searchFrom heavyThen raiseThen raiseOf raiseBy firstHeavy headsWeight bodyWeight
 missed = refl
 

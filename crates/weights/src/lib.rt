@@ -1,14 +1,21 @@
 // A search for weights with which every rule of a table loses weight. Where each rule has one removed head, it finds weights if there are any: no
 // weight is raised further than it must be. Where a rule has more, it may miss them: it finds none for `a, b <=> a, a`, which loses weight with 1 and 2.
 ghost use mathlib.Core.Path.{_≡_};
+ghost use mathlib.Core.Bool.{true};
 ghost use Prim.Native.Nat.{suc, _-_, _≤_};
-ghost use lib.ListN.{length, replicate};
+ghost use lib.Dec.{eqb};
+ghost use lib.ListN.{length};
+ghost use Rattle.model.specs.Reading.{readOf};
 ghost use Rattle.model.specs.Table.{tableOf, ruleOf};
-ghost use Rattle.weigh.specs.Views.{Known, Lies};
-ghost use Rattle.weights.specs.Search.{raiseOf, sought, searchOf};
+ghost use Rattle.model.specs.Calls.{refusal};
+ghost use Rattle.weigh.specs.Views.{Known, Lies, firstOf};
+ghost use Rattle.weights.specs.Search.{mostRaises, raiseOf, soughtAs, searchFrom};
+ghost use Rattle.weights.specs.Find.{Begins, Gives, findCount, findOf};
+use model::CallResult;
 use model::Reading;
 use model::RuleShape;
 use model::Symbol;
+use model::Verdict;
 use weigh::First;
 use weigh::bodies;
 use weigh::goals;
@@ -19,16 +26,6 @@ use weigh::rules;
 pub enum Change {
     To(u8, u8),
     Nothing,
-}
-
-fn all_one(weights: &mut [u8])
-    ensures { λ _. ⌜ now (weights .exit) ≡ replicate (length (now (weights .entry))) 1 ⌝ }
-{
-    let mut i = 0;
-    while i < weights.len() {
-        weights[i] = 1;
-        i += 1;
-    }
 }
 
 // By how much the removed heads of a rule are to be raised, so that they weigh more than its body.
@@ -62,18 +59,17 @@ fn raise(table: &[u8], weights: &[u8], shape: RuleShape) -> Change
     Change::To(symbol, weight as u8)
 }
 
-// Whether weights are found, one byte a symbol. With these every rule loses weight.
-pub fn find_weights(table: &[u8], reading: Reading, weights: &mut [u8]) -> bool
+// Raises these weights until every rule loses weight, or the first that does not cannot be raised. Answers with that rule.
+fn search(table: &[u8], reading: Reading, weights: &mut [u8]) -> First
     requires { ⌜ Known (now table) reading × (length (now weights) ≡ reading .symbols) ⌝ }
-    ensures { λ r. ⌜ sought r (now (weights .exit)) ≡ searchOf (tableOf (now (table .entry)) .rules) (reading .symbols) ⌝ }
+    ensures { λ r. ⌜ soughtAs (now (weights .exit)) (firstOf r) ≡ searchFrom mostRaises (tableOf (now (table .entry)) .rules) (now (weights .entry)) ⌝ }
 {
-    all_one(weights);
-    let mut left: usize = 8129;
+    let mut left: usize = 8128;
     while 0 < left {
         left -= 1;
         match rules::first_heavy(table, weights, reading) {
             First::Nothing => {
-                return true;
+                return First::Nothing;
             }
             First::At(rule) => {
                 let i = rule as usize;
@@ -84,11 +80,72 @@ pub fn find_weights(table: &[u8], reading: Reading, weights: &mut [u8]) -> bool
                         weights[s] = weight;
                     }
                     Change::Nothing => {
-                        return false;
+                        return First::At(rule);
                     }
                 }
             }
         }
     }
-    false
+    rules::first_heavy(table, weights, reading)
+}
+
+// Six numbers with no counts.
+fn result(number: u32, place: u32) -> CallResult
+    ensures { λ r. ⌜ r ≡ refusal number place ⌝ }
+{
+    CallResult {
+        number: number,
+        place: place,
+        steps: 0,
+        firings: 0,
+        identifiers: 0,
+        stored: 0,
+    }
+}
+
+fn write(found: &[u8], weights: &mut [u8])
+    requires { ⌜ length (now found) ≡ length (now weights) ⌝ }
+    ensures { λ _. ⌜ now (weights .exit) ≡ now (found .entry) ⌝ }
+{
+    bytes::copy(found, weights);
+}
+
+// Searches in `own`, so that `weights` is written only with what is found.
+fn find_from(table: &[u8], reading: Reading, own: &mut [u8], weights: &mut [u8]) -> CallResult
+    requires { ⌜ Begins (now table) reading (now own) (now weights) ⌝ }
+    ensures { λ r. ⌜ Gives (findCount (now (table .entry)) (now (weights .entry)) true) r (now (weights .exit)) ⌝ }
+{
+    match search(table, reading, own) {
+        First::Nothing => {
+            write(own, weights);
+            result(0, 0)
+        }
+        First::At(rule) => result(42, rule),
+    }
+}
+
+// 40: "weight count differs from symbols".
+fn find_count(table: &[u8], reading: Reading, weights: &mut [u8]) -> CallResult
+    requires { ⌜ Known (now table) reading ⌝ }
+    ensures { λ r. ⌜ Gives (findCount (now (table .entry)) (now (weights .entry)) (eqb (length (now (weights .entry))) (readOf (now (table .entry)) .symbols))) r (now (weights .exit)) ⌝ }
+{
+    let symbols = reading.symbols as usize;
+    if weights.len() != symbols {
+        return result(40, 0);
+    }
+    let mut own = [1u8; 32];
+    find_from(table, reading, &mut own[0..symbols], weights)
+}
+
+// Looks for weights, one byte a symbol, with which weighing does not refuse the table. They are written where they are found; otherwise the
+// buffer keeps its bytes, and the place of 42 is the rule that could not be raised.
+pub fn find_weights(table: &[u8], weights: &mut [u8]) -> CallResult
+    ensures { λ r. ⌜ Gives (findOf (now (table .entry)) (now (weights .entry))) r (now (weights .exit)) ⌝ }
+{
+    let reading = table::read(table);
+    let verdict = reading.verdict;
+    match verdict {
+        Verdict::Good => find_count(table, reading, weights),
+        Verdict::Refused(n, p) => result(n as u32, p as u32),
+    }
 }
