@@ -22,9 +22,6 @@ use Rattle.weigh.proofs.Turns.{known-good}
 use Rattle.weights.specs.Search.{soughtAs, mostRaises, searchFrom, searchOf}
 use Rattle.weights.specs.Find.{Begins, Gives, findEnded, findCount, findTable, findOf}
 
-pub ones-long : (ws : List ℕ) {n : ℕ} → ws ≡ replicate n 1 → length ws ≡ n
-ones-long ws {n} e = ap length e ∙ length-replicate {A = ℕ} n 1
-
 take-ones : (n m : ℕ) → n ≤ m → take {A = ℕ} n (replicate m 1) ≡ replicate n 1
 take-ones zero m h = refl
 take-ones (suc n) zero h = absurd (omega arith)
@@ -40,10 +37,6 @@ module _ {t : List ℕ} {r : Reading} {own buffer : List ℕ} (b : Begins t r ow
   whole : searchFrom mostRaises (tableOf t .rules) own ≡ searchOf (tableOf t .rules) (readOf t .symbols)
   unfolding searchOf
   whole = ap (searchFrom mostRaises (tableOf t .rules)) (b .ones ∙ ap (λ (r : Reading). replicate (r .symbols) 1) (b .known .same))
-
-  -- what is found has a byte for each of the buffer's
-  pub found-fits : (ws : List ℕ) → length ws ≡ length own → length ws ≡ length buffer
-  found-fits ws l = l ∙ ones-long own (b .ones) ∙ sym (b .room)
 
   module _ {f : First} (ws : List ℕ) {res : CallResult} where
     pub ended-found : f ≡ Nothing → soughtAs ws (firstOf f) ≡ searchFrom mostRaises (tableOf t .rules) own → res ≡ refusal 0 0 → {out : List ℕ} → out ≡ ws → Gives (findCount t buffer true) res out
@@ -64,7 +57,8 @@ module _ {t : List ℕ} {r : Reading} (k : Known t r) where
   pub begins : {buffer : List ℕ} → length buffer ≡ r .symbols → Begins t r (take {A = ℕ} (r .symbols - 0) (replicate 32 1)) buffer
   begins l =
       let e : r .symbols - 0 ≡ r .symbols = omega arith in
-      record { known = k; ones = take-ones (r .symbols - 0) 32 (omega (arith, few-symbols)) ∙ ap (λ (n : ℕ). replicate n 1) e; room = l }
+      let ones = take-ones (r .symbols - 0) 32 (omega (arith, few-symbols)) ∙ ap (λ (n : ℕ). replicate n 1) e in
+      record { known = k; ones = ones; long = ap length ones ∙ length-replicate {A = ℕ} (r .symbols) 1; room = l }
 
   module _ (buffer : List ℕ) {res : CallResult} where
     pub other-count : (length buffer ≡ r .symbols → ⊥) → res ≡ refusal 40 0 → Gives (findCount t buffer (eqb (length buffer) (readOf t .symbols))) res buffer

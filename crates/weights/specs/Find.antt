@@ -50,4 +50,5 @@ pub record Gives (o : Finding) (r : CallResult) (weights : List ℕ) : Type 0 wh
 pub record Begins (t : List ℕ) (r : Reading) (own buffer : List ℕ) : Type 0 where
   pub known : Known t r
   pub ones : own ≡ replicate (r .symbols) 1
+  pub long : length own ≡ r .symbols
   pub room : length buffer ≡ r .symbols

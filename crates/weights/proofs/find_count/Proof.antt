@@ -14,6 +14,6 @@ find-count-spec =
     (λ c. search needs)
     (λ c. search needs)
     (λ c. search (few-symbols, needs))
-    (λ c κs. begins (c .before .before .before .before .before .before .pre) (c .before .before .if1 .left))
+    (λ c κs. search (begins, needs))
     (λ c. search needs)
     (λ c. search (same-count, needs)))

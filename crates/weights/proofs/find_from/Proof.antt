@@ -1,6 +1,6 @@
 -- `find_from` meets its contract: what the search answers is the definition's case, and what it found fills the buffer.
 use borrow.Author.Needs.{needs}
-use Rattle.weights.proofs.Finding.{ones-long, found-fits, ended-found, ended-stopped}
+use Rattle.weights.proofs.Finding.{ended-found, ended-stopped}
 use Rattle.weights.proofs.find_from.Statement.{statement}
 use Rattle.weights.proofs.find_from.Tie as tie
 
@@ -8,9 +8,9 @@ pub find-from-spec : {M : Type 1} → statement M
 find-from-spec =
     tie.close
     (tie.spec
-    (λ c κs. search (ones-long, needs))
+    (λ c κs. search needs)
     (λ c. search needs)
-    (λ c κs. search (found-fits, needs))
+    (λ c κs. search needs)
     (λ c κs. search needs)
     (λ c. search needs)
     (λ c κs. search needs)
