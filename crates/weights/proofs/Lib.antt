@@ -3,4 +3,5 @@ pub mod Raising
 pub mod Finding
 pub mod Accepted
 pub mod Promise
+pub mod Complete
 pub mod Worked

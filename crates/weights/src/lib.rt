@@ -1,5 +1,6 @@
 // A search for weights with which every rule of a table loses weight. Where each rule has one removed head, it finds weights if there are any: no
-// weight is raised further than it must be. Where a rule has more, it may miss them: it finds none for `a, b <=> a, a`, which loses weight with 1 and 2.
+// weight is raised further than it must be (`find-complete`). Where a rule has more, it may miss them: it finds none for `a, b <=> a, a`, which
+// loses weight with 1 and 2.
 ghost use mathlib.Core.Path.{_≡_};
 ghost use mathlib.Core.Bool.{true};
 ghost use Prim.Native.Nat.{suc, _-_, _≤_};
