@@ -12,13 +12,13 @@
  *
  * The number is also what the call returns. On every return all six are written.
  *
- * Memory. The caller owns every buffer. A call reads what is `const`, writes the six words of `result`, and of `answer` and `bound`
- * what is said below, and touches nothing else. No pointer is null, also where the length is 0, and no two buffers of a call overlap.
- * Nothing is kept from call to call and nothing is allocated, so calls may be made from several threads at once, each with its own
- * `result`, `answer` and `bound`; they may read the same table, as long as nobody writes it meanwhile.
+ * Memory. The caller owns every buffer. A call reads what is `const`, writes the six words of `result`, and of `answer`, `bound` and
+ * the weights to be found what is said below, and touches nothing else. No pointer is null, also where the length is 0, and no two
+ * buffers of a call overlap. Nothing is kept from call to call and nothing is allocated, so calls may be made from several threads at
+ * once, each with its own buffers to write; they may read the same table, as long as nobody writes it meanwhile.
  *
  * Stack. Over the stored cases of this project a run took at most 23,784 bytes of machine stack on x86-64, a check 3,352 and a weighing
- * 4,504 (docs/MEASUREMENTS.md). These are measured, not proved: allow 26,624.
+ * 4,504 (docs/MEASUREMENTS.md). These are measured, not proved: allow 26,624. Looking for weights is not measured yet.
  *
  * Numbers of a run that was admitted:
  *
@@ -49,6 +49,15 @@
  *     40  as many weights as symbols are wanted                         place: 0
  *     41  a weight of zero                                              place: the symbol, from 0
  *     42  a rule that does not lose weight                              place: the rule, from 0
+ *
+ * A run that is sure to end: find weights once for a table of `symbols` symbols, weigh each goal, and run it with the bound as limit.
+ *
+ *     uint8_t weights[NADHIRUKH_MAX_SYMBOLS];
+ *     if (nadhirukh_find_weights(table, table_len, weights, symbols, result) == 0
+ *         && nadhirukh_weigh(table, table_len, weights, symbols, goal, goal_len, result, bound) == 0)
+ *         nadhirukh_run(table, table_len, goal, goal_len, bound[1], answer, sizeof answer, result);
+ *
+ * The run then does not end in 2 or 7, nor in 5 if bound[0] is at most 128.
  */
 #ifndef NADHIRUKH_H
 #define NADHIRUKH_H
@@ -63,6 +72,9 @@ extern "C" {
 /* How many words a result has, and a bound. */
 #define NADHIRUKH_RESULT 6
 #define NADHIRUKH_BOUND 2
+
+/* The most symbols that a table has. */
+#define NADHIRUKH_MAX_SYMBOLS 32u
 
 /* The greatest step limit, the length of the shortest answer buffer, and that of a stored fact in it. */
 #define NADHIRUKH_MAX_LIMIT 20000000ul
@@ -86,6 +98,15 @@ uint32_t nadhirukh_run(const uint8_t *table, size_t table_len, const uint8_t *go
  */
 uint32_t nadhirukh_weigh(const uint8_t *table, size_t table_len, const uint8_t *weights, size_t weights_len, const uint8_t *goal,
                          size_t goal_len, uint32_t result[NADHIRUKH_RESULT], uint32_t bound[NADHIRUKH_BOUND]);
+
+/*
+ * Looks for weights with which nadhirukh_weigh does not refuse the table: weights_len is the table's number of symbols. Where the number
+ * is 0, every byte of `weights` is written, and none is 0; otherwise all keep what they held. 16 to 23 and 40 are as above; 42 says that
+ * none were found, and its place is the rule that could not be raised further. Where every rule has one removed head, weights are found
+ * if there are any; where a rule has more, they may be missed.
+ */
+uint32_t nadhirukh_find_weights(const uint8_t *table, size_t table_len, uint8_t *weights, size_t weights_len,
+                                uint32_t result[NADHIRUKH_RESULT]);
 
 #ifdef __cplusplus
 }

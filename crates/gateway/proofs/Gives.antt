@@ -6,7 +6,8 @@ use Rattle.model.specs.declared.CallResult.{CallResult}
 use Rattle.model.specs.declared.Weighing.{Weighing}
 use Rattle.model.specs.Calls.{RunOutput}
 use Rattle.engine.specs.Arrays.{Ran}
-use Rattle.gateway.specs.Words.{Given, RunGiven, WeighGiven}
+use Rattle.weights.specs.Find.{Finding, Gives}
+use Rattle.gateway.specs.Words.{Given, RunGiven, WeighGiven, FindGiven}
 
 pub given : {r d : CallResult} {six : List ℕ} {n : ℕ} → r ≡ d → Given r six n → Given d six n
 given e g = rw e at g
@@ -16,3 +17,6 @@ run-given e g = record { bytes = e .answered; given = given (e .result) g }
 
 pub weigh-given : {w v : Weighing} {six : List ℕ} {n : ℕ} → w ≡ v → Given (w .result) six n → WeighGiven v six (w .weight ∷ w .bound ∷ []) n
 weigh-given e g = record { given = given (ap (λ (x : Weighing). x .result) e) g; bound = ap (λ (x : Weighing). x .weight ∷ x .bound ∷ []) e }
+
+pub find-given : {o : Finding} {r : CallResult} {weights six : List ℕ} {n : ℕ} → Gives o r weights → Given r six n → FindGiven o weights six n
+find-given e g = record { bytes = e .bytes; given = given (e .result) g }

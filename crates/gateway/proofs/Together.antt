@@ -1,5 +1,6 @@
--- What C may rely on of the calls together. Each contract allows one outcome alone, since it is made of equations. And the mission's third demand of
--- two calls: whatever words a weighing with number 0 gives and whatever words a run of the same table and goal gives, the run keeps to the bound.
+-- What C may rely on of the calls together. Each contract allows one outcome alone, since it is made of equations. The mission's third demand of two
+-- calls: whatever words a weighing with number 0 gives and whatever words a run of the same table and goal gives, the run keeps to the bound. And with
+-- weights that were found, a weighing refuses the goal, if anything.
 use Prim.Native.Nat.{ℕ, _≤_}
 use mathlib.Core.Path.{_≡_, sym, _∙_}
 use mathlib.Core.List.{List}
@@ -9,7 +10,9 @@ use Rattle.model.specs.declared.Weighing.{Weighing}
 use Rattle.model.specs.Limits.{storeRoom}
 use Rattle.model.specs.Calls.{RunOutput, runOf, weighOf}
 use Rattle.model.proofs.Demand3.{weighed-run}
-use Rattle.gateway.specs.Words.{Given, RunGiven, WeighGiven}
+use Rattle.weights.specs.Find.{Finding, findOf}
+use Rattle.weights.proofs.Promise.{GoalAlone, found-weighs}
+use Rattle.gateway.specs.Words.{Given, RunGiven, WeighGiven, FindGiven}
 
 -- ---- each call has one outcome
 
@@ -38,6 +41,15 @@ one-run-given a b = record { bytes = a .bytes ∙ sym (b .bytes); given = one-gi
 pub one-weigh-given : {w : Weighing} {six six′ two two′ : List ℕ} {n n′ : ℕ} → WeighGiven w six two n → WeighGiven w six′ two′ n′
     → SameWeighing six six′ two two′ n n′
 one-weigh-given a b = record { given = one-given (a .given) (b .given); bound = a .bound ∙ sym (b .bound) }
+
+-- the buffer's bytes too
+pub record SameFind (weights weights′ six six′ : List ℕ) (n n′ : ℕ) : Type 0 where
+  pub bytes : weights ≡ weights′
+  pub given : Same six six′ n n′
+
+pub one-find-given : {o : Finding} {weights weights′ six six′ : List ℕ} {n n′ : ℕ} → FindGiven o weights six n → FindGiven o weights′ six′ n′
+    → SameFind weights weights′ six six′ n n′
+one-find-given a b = record { bytes = a .bytes ∙ sym (b .bytes); given = one-given (a .given) (b .given) }
 
 -- ---- a weighing, then a run
 
@@ -69,3 +81,12 @@ weighed-then-run table weights goal limit answer w r =
     let p = weighed-run table weights goal (sym (w .given .returned)) limit answer in
     rw (w .bound, r .given .words, r .given .returned)
     (record { fewSteps = p .steps; fewFirings = p .firings; neverLimit = p .neverLimit; neverFull = p .neverFull; neverHistory = p .neverHistory })
+
+-- ---- weights are looked for, then weighed
+
+pub found-then-weighed : (table buffer goal : List ℕ) {weights finding weighing two : List ℕ} {n : ℕ}
+    → FindGiven (findOf table buffer) weights finding 0
+    → WeighGiven (weighOf table weights goal) weighing two n
+    → GoalAlone n
+found-then-weighed table buffer goal f w =
+    rw (w .given .returned, f .bytes) (found-weighs table buffer goal (sym (f .given .returned)))

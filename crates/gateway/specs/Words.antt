@@ -5,6 +5,7 @@ use mathlib.Core.List.{List, [], _∷_}
 use Rattle.model.specs.declared.CallResult.{CallResult}
 use Rattle.model.specs.declared.Weighing.{Weighing}
 use Rattle.model.specs.Calls.{RunOutput}
+use Rattle.weights.specs.Find.{Finding}
 
 abbrev pub sixOf : CallResult → List ℕ
 sixOf r = r .number ∷ r .place ∷ r .steps ∷ r .firings ∷ r .identifiers ∷ r .stored ∷ []
@@ -23,3 +24,8 @@ pub record RunGiven (o : RunOutput) (answer six : List ℕ) (number : ℕ) : Typ
 pub record WeighGiven (w : Weighing) (six two : List ℕ) (number : ℕ) : Type 0 where
   pub given : Given (w .result) six number
   pub bound : two ≡ w .weight ∷ w .bound ∷ []
+
+-- looking for weights gives back the buffer's bytes too
+pub record FindGiven (o : Finding) (weights six : List ℕ) (number : ℕ) : Type 0 where
+  pub bytes : weights ≡ o .weights
+  pub given : Given (o .result) six number

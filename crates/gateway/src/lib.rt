@@ -1,6 +1,7 @@
 // The calls for a C host, thin over the proved library. A slice is C's pointer and length; include/nadhirukh.h declares them.
 ghost use Rattle.model.specs.Calls.{checkOf, runOf, weighOf};
-ghost use Rattle.gateway.specs.Words.{Given, RunGiven, WeighGiven};
+ghost use Rattle.weights.specs.Find.{findOf};
+ghost use Rattle.gateway.specs.Words.{Given, RunGiven, WeighGiven, FindGiven};
 use model::CallResult;
 
 // The result's six words, and its number.
@@ -52,4 +53,15 @@ pub extern "C" fn nadhirukh_weigh(
     *bound = [w.weight, w.bound];
     let r = w.result;
     give(r, result)
+}
+
+#[no_mangle]
+pub extern "C" fn nadhirukh_find_weights(
+    table: &[u8],
+    weights: &mut [u8],
+    result: &mut [u32; 6],
+) -> u32
+    ensures { λ n. ⌜ FindGiven (findOf (now (table .entry)) (now (weights .entry))) (now (weights .exit)) (now (result .exit)) n ⌝ }
+{
+    give(weights::find_weights(table, weights), result)
 }
