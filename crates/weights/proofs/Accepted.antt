@@ -13,13 +13,12 @@ use Rattle.model.proofs.Every.{every, every-at}
 use Rattle.weights.specs.declared.Change.{Change}
 use Rattle.weights.specs.declared.Change.the-variants.{To, Nothing}
 use Rattle.weights.specs.Search.{raiseOf, mostRaises, Sought, found, stopped, searchFrom, searchOf}
-use Rattle.weights.proofs.Ends.{Heavy, RaisedBy, lack, raised, heavy-at, Keeps, Found, Stopped, Ends, ends}
+use Rattle.weights.proofs.Ends.{Heavy, raised, heavy-at, Ends, ends}
 
 -- ---- what holds of each weight, by its symbol
 
-module _ (ws : List ℕ) where
-  abbrev pub Each : (ℕ → ℕ → Type 0) → Type 0
-  Each Q = (i : ℕ) → Q i (getD ws i 1)
+abbrev pub Each : List ℕ → (ℕ → ℕ → Type 0) → Type 0
+Each ws Q = (i : ℕ) → Q i (getD ws i 1)
 
 pub set-each : (Q : ℕ → ℕ → Type 0) (ws : List ℕ) (s x : ℕ) → Each ws Q → Q s x → Each (set ws s x) Q
 set-each Q [] s x p h i = p i

@@ -21,7 +21,7 @@ use Rattle.model.proofs.Good.{good-table}
 use Rattle.weights.specs.declared.Change.the-variants.{To}
 use Rattle.weights.specs.Search.{raiseBy, raiseOf, mostRaises, Sought, found, stopped, searchFrom, searchOf}
 use Rattle.weights.specs.Find.{Finding, finding, findEnded, findCount, findTable, findOf}
-use Rattle.weights.proofs.Ends.{Heavy, lack, raised, heavy-at, Ends, ends}
+use Rattle.weights.proofs.Ends.{Heavy, lack, heavy-at, Ends, ends}
 use Rattle.weights.proofs.Accepted.{Each, Weight, set-each, ones-each, Declared, Kept, raise-keeps, all-raised, ones-kept}
 use Rattle.weights.proofs.Promise.{removed-declared}
 

@@ -1,5 +1,5 @@
--- The call that looks for weights, test by test: what each finds decides the definition's case. Where the search finds weights, the copy of them is the
--- whole buffer, since both have one byte a symbol.
+-- The call that looks for weights, test by test: what each finds decides the definition's case. The search begins with a part of an array of ones, which
+-- is 1 for each symbol since there are at most 32; what it finds is copied over the whole buffer, since both have one byte a symbol.
 use Prim.Native.Nat.{ℕ, zero, suc, _-_, _≤_}
 use mathlib.Core.Path.{_≡_, refl, sym, ap, _∙_}
 use mathlib.Core.Bool.{true}
