@@ -29,9 +29,6 @@ use Rattle.model.proofs.Decoded.{items-first}
 use Rattle.engine.specs.declared.Body.{Body}
 use Rattle.engine.specs.Arrays.{madeOf, bodyOf, ItemsLie, WorkedOut}
 
-pub argument-is : (b : Binding) (t : List ℕ) (p : ℕ) {e : Expression} {v : Value} → v ≡ expressionValue b e → e ≡ expressionAt t p → v ≡ expressionValue b (expressionAt t p)
-argument-is b t p v e = v ∙ ap (expressionValue b) e
-
 pub none-made : (e : Entry) → madeOf (record { ok = false; entry = e }) ≡ none
 unfolding madeOf
 none-made e = refl

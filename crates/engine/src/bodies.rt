@@ -11,21 +11,10 @@ ghost use mathlib.Core.Option.{none};
 ghost use mathlib.Core.Bool.{true, false};
 ghost use Prim.Native.Nat.{_+_, _≤_, _<_};
 ghost use lib.ListN.{length};
-ghost use Rattle.model.specs.Guards.{expressionValue};
-ghost use Rattle.model.specs.Slots.{expressionAt};
 ghost use Rattle.model.specs.Steps.{itemEntry, bodyEntries};
 ghost use Rattle.model.specs.Table.{itemAt, isFact, bodyFactAt, behindItem, itemsFrom};
 ghost use Rattle.search.specs.Views.{bindingOf};
 ghost use Rattle.engine.specs.Arrays.{madeOf, ItemsLie, WorkedOut};
-
-// The value of the expression at p.
-fn argument(t: &[u8], p: usize, values: &[i32; 16], bound: &[bool; 16]) -> Value
-    requires { ⌜ p + 11 ≤ length (now t) ⌝ }
-    ensures { λ r. ⌜ r ≡ expressionValue (bindingOf (now (values .entry)) (now (bound .entry))) (expressionAt (now (t .entry)) p) ⌝ }
-{
-    let e = search::decode::expression_within(t, p);
-    search::guards::expression_value(e, values, bound)
-}
 
 fn not_made() -> Made
     ensures { λ r. ⌜ madeOf r ≡ none ⌝ }
@@ -42,16 +31,16 @@ fn fact_entry(t: &[u8], p: usize, values: &[i32; 16], bound: &[bool; 16]) -> Mad
     ensures { λ r. ⌜ madeOf r ≡ itemEntry (bindingOf (now (values .entry)) (now (bound .entry))) (bodyFactAt (now (t .entry)) p) ⌝ }
 {
     let symbol = t[p + 1];
-    let Value::Number(a0) = argument(t, p + 2, values, bound) else {
+    let Value::Number(a0) = search::guards::value_at(t, p + 2, values, bound) else {
         return not_made();
     };
-    let Value::Number(a1) = argument(t, p + 13, values, bound) else {
+    let Value::Number(a1) = search::guards::value_at(t, p + 13, values, bound) else {
         return not_made();
     };
-    let Value::Number(a2) = argument(t, p + 24, values, bound) else {
+    let Value::Number(a2) = search::guards::value_at(t, p + 24, values, bound) else {
         return not_made();
     };
-    let Value::Number(a3) = argument(t, p + 35, values, bound) else {
+    let Value::Number(a3) = search::guards::value_at(t, p + 35, values, bound) else {
         return not_made();
     };
     let fact = Fact {

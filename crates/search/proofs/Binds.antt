@@ -3,7 +3,7 @@ use mathlib.Core.Path.{_≡_, refl, sym, ap, _∙_}
 use mathlib.Core.Bool.{Bool, true, false, not}
 use mathlib.Core.Option.{Option, none, some}
 use mathlib.Core.List.{List, [], _∷_}
-use Prim.Native.Nat.{ℕ, _<_, _≤_}
+use Prim.Native.Nat.{ℕ, _+_, _<_, _≤_}
 use native.Mathlib.Omega.{arith}
 use lib.Dec.{eqb}
 use lib.IntN.{ℤ, pos}
@@ -15,9 +15,9 @@ use Rattle.model.specs.declared.Slot.the-variants.{Unused, Constant, Variable, 
 use Rattle.model.specs.declared.Fact.{Fact}
 use Rattle.model.specs.declared.Binding.{Binding}
 use Rattle.model.specs.Matching.{boundIf, withVariable, matchVariable, matchSlot, andSlot, matchSlots, arguments, matchHead}
-use Rattle.model.specs.Table.{Head, sameSymbol}
-use Rattle.search.specs.declared.Pattern.{Pattern}
-use Rattle.search.specs.Views.{bindingOf, boundAs, patternOf}
+use Rattle.model.specs.Slots.{slotAt}
+use Rattle.model.specs.Table.{headAt}
+use Rattle.search.specs.Views.{bindingOf, boundAs}
 
 same-answer : (x : Bool) (values : List ℤ) (bound : List Bool) → boundAs x values bound ≡ boundIf x (bindingOf values bound)
 unfolding boundAs
@@ -57,6 +57,9 @@ module _ {s : Slot} (a : ℤ) (values : List ℤ) (bound : List Bool) where
   unfolding boundAs matchSlot
   slot-bad e = rw e
 
+pub slot-read : (t : List ℕ) (p : ℕ) (a : ℤ) (b : Binding) {s : Slot} {y : ℤ} {m : Option Binding} → m ≡ matchSlot s y b → s ≡ slotAt t p → y ≡ a → m ≡ matchSlot (slotAt t p) a b
+slot-read t p a b m s y = rw (← s, ← y) m
+
 -- ---- a head: its slots in turn, as long as each matches
 
 -- the binding after the slots so far
@@ -68,38 +71,38 @@ missed : (ok : Bool) (values : List ℤ) (bound : List Bool) {m : Option Binding
 unfolding boundAs
 missed ok values bound e t = sym e ∙ rw (not-true ok t) refl
 
-module _ (h : Pattern) (f : Fact) (b : Binding) where
-  other-symbol : (h .symbol ≡ f .symbol .0 → ⊥) → matchHead (patternOf h) f b ≡ none
-  unfolding matchHead patternOf
+module _ (t : List ℕ) (p : ℕ) (f : Fact) (b : Binding) where
+  other-symbol : (getD t (p + 1) 0 ≡ f .symbol .0 → ⊥) → matchHead (headAt t p) f b ≡ none
+  unfolding matchHead headAt
   other-symbol d = rw (ne-eqb _ _ d)
 
-  same-symbol : h .symbol ≡ f .symbol .0
-      → matchHead (patternOf h) f b ≡ andSlot (h .s3) (f .a3) (andSlot (h .s2) (f .a2) (andSlot (h .s1) (f .a1) (matchSlot (h .s0) (f .a0) b)))
-  unfolding matchHead patternOf matchSlots andSlot
+  same-symbol : getD t (p + 1) 0 ≡ f .symbol .0
+      → matchHead (headAt t p) f b ≡ andSlot (slotAt t (p + 17)) (f .a3) (andSlot (slotAt t (p + 12)) (f .a2) (andSlot (slotAt t (p + 7)) (f .a1) (matchSlot (slotAt t (p + 2)) (f .a0) b)))
+  unfolding matchHead headAt matchSlots andSlot
   same-symbol e = rw (eq-eqb _ _ e)
 
-  pub head-other : (h .symbol ≡ f .symbol .0 → ⊥) → (z : List ℤ) (y : List Bool) → boundAs false z y ≡ matchHead (patternOf h) f b
+  pub head-other : (getD t (p + 1) 0 ≡ f .symbol .0 → ⊥) → (z : List ℤ) (y : List Bool) → boundAs false z y ≡ matchHead (headAt t p) f b
   unfolding boundAs
   head-other d z y = sym (other-symbol d)
 
-  module _ (e : h .symbol ≡ f .symbol .0) (k0 : Bool) (z0 : List ℤ) (y0 : List Bool) (a0 : ℤ) (m0 : boundAs k0 z0 y0 ≡ matchSlot (h .s0) a0 b) (e0 : a0 ≡ f .a0) where
-    after-0 : not k0 ≡ false → matchSlot (h .s0) (f .a0) b ≡ some (bindingOf z0 y0)
-    after-0 t = ap (λ (x : ℤ). matchSlot (h .s0) x b) (sym e0) ∙ matched k0 z0 y0 m0 t
+  module _ (e : getD t (p + 1) 0 ≡ f .symbol .0) (k0 : Bool) (z0 : List ℤ) (y0 : List Bool) (a0 : ℤ) (m0 : boundAs k0 z0 y0 ≡ matchSlot (slotAt t (p + 2)) a0 b) (e0 : a0 ≡ f .a0) where
+    after-0 : not k0 ≡ false → matchSlot (slotAt t (p + 2)) (f .a0) b ≡ some (bindingOf z0 y0)
+    after-0 t0 = rw (← e0) (matched k0 z0 y0 m0 t0)
 
-    pub head-miss-0 : not k0 ≡ true → (z : List ℤ) (y : List Bool) → boundAs false z y ≡ matchHead (patternOf h) f b
+    pub head-miss-0 : not k0 ≡ true → (z : List ℤ) (y : List Bool) → boundAs false z y ≡ matchHead (headAt t p) f b
     unfolding boundAs andSlot
-    head-miss-0 t z y = rw (same-symbol e, ← e0, missed k0 z0 y0 m0 t)
+    head-miss-0 t0 z y = rw (same-symbol e, ← e0, missed k0 z0 y0 m0 t0)
 
-    module _ (t0 : not k0 ≡ false) (k1 : Bool) (z1 : List ℤ) (y1 : List Bool) (a1 : ℤ) (m1 : boundAs k1 z1 y1 ≡ matchSlot (h .s1) a1 (bindingOf z0 y0)) (e1 : a1 ≡ f .a1) where
-      pub head-miss-1 : not k1 ≡ true → (z : List ℤ) (y : List Bool) → boundAs false z y ≡ matchHead (patternOf h) f b
+    module _ (t0 : not k0 ≡ false) (k1 : Bool) (z1 : List ℤ) (y1 : List Bool) (a1 : ℤ) (m1 : boundAs k1 z1 y1 ≡ matchSlot (slotAt t (p + 7)) a1 (bindingOf z0 y0)) (e1 : a1 ≡ f .a1) where
+      pub head-miss-1 : not k1 ≡ true → (z : List ℤ) (y : List Bool) → boundAs false z y ≡ matchHead (headAt t p) f b
       unfolding boundAs andSlot
-      head-miss-1 t z y = rw (same-symbol e, after-0 t0, ← e1, missed k1 z1 y1 m1 t)
+      head-miss-1 n z y = rw (same-symbol e, after-0 t0, ← e1, missed k1 z1 y1 m1 n)
 
-      module _ (t1 : not k1 ≡ false) (k2 : Bool) (z2 : List ℤ) (y2 : List Bool) (a2 : ℤ) (m2 : boundAs k2 z2 y2 ≡ matchSlot (h .s2) a2 (bindingOf z1 y1)) (e2 : a2 ≡ f .a2) where
-        pub head-miss-2 : not k2 ≡ true → (z : List ℤ) (y : List Bool) → boundAs false z y ≡ matchHead (patternOf h) f b
+      module _ (t1 : not k1 ≡ false) (k2 : Bool) (z2 : List ℤ) (y2 : List Bool) (a2 : ℤ) (m2 : boundAs k2 z2 y2 ≡ matchSlot (slotAt t (p + 12)) a2 (bindingOf z1 y1)) (e2 : a2 ≡ f .a2) where
+        pub head-miss-2 : not k2 ≡ true → (z : List ℤ) (y : List Bool) → boundAs false z y ≡ matchHead (headAt t p) f b
         unfolding boundAs andSlot
-        head-miss-2 t z y = rw (same-symbol e, after-0 t0, ← e1, matched k1 z1 y1 m1 t1, ← e2, missed k2 z2 y2 m2 t)
+        head-miss-2 n z y = rw (same-symbol e, after-0 t0, ← e1, matched k1 z1 y1 m1 t1, ← e2, missed k2 z2 y2 m2 n)
 
-        pub head-last : not k2 ≡ false → {a3 : ℤ} {m : Option Binding} → m ≡ matchSlot (h .s3) a3 (bindingOf z2 y2) → a3 ≡ f .a3 → m ≡ matchHead (patternOf h) f b
+        pub head-last : not k2 ≡ false → {a3 : ℤ} {m : Option Binding} → m ≡ matchSlot (slotAt t (p + 17)) a3 (bindingOf z2 y2) → a3 ≡ f .a3 → m ≡ matchHead (headAt t p) f b
         unfolding andSlot
         head-last t2 m3 e3 = rw (same-symbol e, after-0 t0, ← e1, matched k1 z1 y1 m1 t1, ← e2, matched k2 z2 y2 m2 t2, ← e3) m3

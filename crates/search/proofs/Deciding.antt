@@ -21,52 +21,10 @@ use Rattle.model.specs.declared.Slot.{Slot}
 use Rattle.model.specs.declared.Slot.the-variants.{Unused, Constant, Variable, Bad}
 use Rattle.model.specs.declared.Binding.{Binding}
 use Rattle.model.specs.declared.Expression.{Expression}
-use Rattle.model.specs.Slots.{slotBy, slotAt, expressionAt}
+use Rattle.model.specs.Slots.{slotAt, expressionAt}
 use Rattle.model.specs.Guards.{variableValue, slotValue, expressionValue, comparisonValue, guardValue}
-use Rattle.model.specs.Table.{Guard, guardAt, guardsFrom, headAt}
-use Rattle.search.specs.declared.Pattern.{Pattern}
-use Rattle.search.specs.Views.{bindingOf, patternOf}
-
--- ---- slots
-
-module _ (tag value : ℕ) where
-  pub by-unused : tag ≡ 0 → value ≡ 0 → Unused ≡ slotBy tag value
-  unfolding slotBy
-  by-unused t v = rw (t, v)
-
-  pub by-spoilt : tag ≡ 0 → (value ≡ 0 → ⊥) → Bad ≡ slotBy tag value
-  unfolding slotBy
-  by-spoilt t v = rw (t, ne-eqb value 0 v)
-
-  pub by-constant : tag ≡ 1 → {z : ℤ} → z ≡ signedOf value → Constant z ≡ slotBy tag value
-  unfolding slotBy
-  by-constant t e = rw (t, e)
-
-  pub by-variable : tag ≡ 2 → value < 16 → Variable (value % 256) ≡ slotBy tag value
-  unfolding slotBy
-  by-variable t h = let e : value % 256 ≡ value = mod-eq-of-lt (omega arith) in rw (t, lt-ltb value 16 h, e)
-
-  pub by-above : tag ≡ 2 → 16 ≤ value → Bad ≡ slotBy tag value
-  unfolding slotBy
-  by-above t h = rw (t, le-ltb value 16 h)
-
-  pub by-none : (tag ≡ 0 → ⊥) → (tag ≡ 1 → ⊥) → (tag ≡ 2 → ⊥) → Bad ≡ slotBy tag value
-  unfolding slotBy
-  by-none a b c = rw (ne-eqb tag 0 a, ne-eqb tag 1 b, ne-eqb tag 2 c)
-
-pub slot-is : (t : List ℕ) (p : ℕ) {value : ℕ} {s : Slot} → value ≡ u32At t (p + 1) → s ≡ slotBy (getD t p 0) value → s ≡ slotAt t p
-unfolding slotAt
-slot-is t p v e = e ∙ ap (slotBy (getD t p 0)) v
-
-pub expression-is : (t : List ℕ) (p : ℕ) {l r : Slot} → l ≡ slotAt t (p + 1) → r ≡ slotAt t (p + 6)
-    → _≡_ {A = Expression} (record { operation = getD t p 0; left = l; right = r }) (expressionAt t p)
-unfolding expressionAt
-expression-is t p l r = rw (l, r)
-
-pub head-is : (t : List ℕ) (p : ℕ) {a b c d : Slot} → a ≡ slotAt t (p + 2) → b ≡ slotAt t (p + 7) → c ≡ slotAt t (p + 12) → d ≡ slotAt t (p + 17)
-    → patternOf (record { symbol = getD t (p + 1) 0; s0 = a; s1 = b; s2 = c; s3 = d }) ≡ headAt t p
-unfolding patternOf headAt
-head-is t p a b c d = rw (a, b, c, d)
+use Rattle.model.specs.Table.{guardAt, guardsFrom}
+use Rattle.search.specs.Views.{bindingOf, settledOf}
 
 -- ---- values
 
@@ -100,15 +58,33 @@ module _ (b : Binding) {s : Slot} where
   unfolding slotValue
   value-bad e = rw e
 
-pub expression-value-is : (b : Binding) (e : Expression) {x y r : Value} → r ≡ evaluate (e .operation) x y → x ≡ slotValue b (e .left) → y ≡ slotValue b (e .right) → r ≡ expressionValue b e
-unfolding expressionValue
-expression-value-is b e q x y = rw (← x, ← y) q
+module _ (b : Binding) {s : Slot} where
+  pub settled-unused : s ≡ Unused → Undefined ≡ settledOf b s
+  unfolding settledOf
+  settled-unused e = rw e
 
-pub comparison-is : (b : Binding) (t : List ℕ) (p : ℕ) {l r : Expression} {x y : Value} {o : Truth}
-    → o ≡ compare (getD t (p + 1) 0) x y → x ≡ expressionValue b l → y ≡ expressionValue b r → l ≡ expressionAt t (p + 2) → r ≡ expressionAt t (p + 13)
+  pub settled-constant : {z : ℤ} → s ≡ Constant z → Number z ≡ settledOf b s
+  unfolding settledOf
+  settled-constant e = rw e
+
+  pub settled-variable : {v : ℕ} → s ≡ Variable v → {r : Value} → r ≡ variableValue b v → r ≡ settledOf b s
+  unfolding settledOf
+  settled-variable e q = rw e q
+
+  pub settled-bad : s ≡ Bad → Undefined ≡ settledOf b s
+  unfolding settledOf
+  settled-bad e = rw e
+
+pub value-is : (b : Binding) (t : List ℕ) (p : ℕ) {l r : Slot} {x y o : Value} → o ≡ evaluate (getD t p 0) x y → x ≡ slotValue b l → y ≡ slotValue b r → l ≡ slotAt t (p + 1) → r ≡ slotAt t (p + 6)
+    → o ≡ expressionValue b (expressionAt t p)
+unfolding expressionValue expressionAt
+value-is b t p o x y l r = rw (← l, ← r, ← x, ← y) o
+
+pub comparison-is : (b : Binding) (t : List ℕ) (p : ℕ) {x y : Value} {o : Truth}
+    → o ≡ compare (getD t (p + 1) 0) x y → x ≡ expressionValue b (expressionAt t (p + 2)) → y ≡ expressionValue b (expressionAt t (p + 13))
     → o ≡ comparisonValue b (guardAt t p)
 unfolding comparisonValue guardAt
-comparison-is b t p o x y l r = rw (← l, ← r, ← x, ← y) o
+comparison-is b t p o x y = rw (← x, ← y) o
 
 -- ---- a list of guards
 

@@ -26,13 +26,14 @@ use Rattle.model.specs.Matching.{matchHead}
 use Rattle.model.specs.Table.{Head, Rule, heads, headAt, headsFrom, headsStart, guardsFrom, guardsStart, ruleOf}
 use Rattle.model.specs.Search.{Fired, Found, nothing, undefinedGuard, applies, isAmong, mayStand, firedOf, inHistory, unlessKnown, judged, orElse, firstOf, andThen, complete, candidate, search, storedFact, noHead, fromActive, firstInstance}
 use Rattle.model.proofs.Decoded.{heads-none, heads-first, heads-at, rule-guards, rule-heads}
-use Rattle.search.specs.declared.Pattern.{Pattern}
+use Rattle.search.specs.declared.Probe.{Probe}
 use Rattle.search.specs.declared.Quest.{Quest}
 use Rattle.search.specs.declared.Lookup.{Lookup}
 use Rattle.search.specs.declared.Lookup.the-variants.{Here, Gone}
 use Rattle.search.specs.declared.Outcome.{Outcome}
 use Rattle.search.specs.declared.Outcome.the-variants.{Applies, Nothing, UndefinedGuard}
-use Rattle.search.specs.Views.{factId, idsOf, bindingOf, boundAs, patternOf, rowFact, rowAt, rowsFrom, firedAt, pastOf, candidateOf, foundAs, lookupOf, soughtOf, Held, Ready, Sought, firstOfQuest, Posed, Answered}
+use Rattle.search.proofs.Probed.{no-pass}
+use Rattle.search.specs.Views.{factId, idsOf, bindingOf, boundAs, Probing, passesOf, rowFact, rowAt, rowsFrom, firedAt, pastOf, candidateOf, foundAs, lookupOf, soughtOf, Held, Ready, Sought, firstOfQuest, Posed, Answered}
 
 -- ---- a row
 
@@ -112,10 +113,6 @@ take-less l m k e = sym (shorter l k) ∙ ap (take k) e ∙ shorter m k
 pub kept-before : (chosen₀ chosen after : List ℕ) (k x : ℕ) → take (k + 1) after ≡ take (k + 1) (set chosen k x) → take k chosen ≡ take k chosen₀ → take k after ≡ take k chosen₀
 kept-before chosen₀ chosen after k x e w = take-less after (set chosen k x) k (rw (add-one k) at e) ∙ take-set chosen k x ∙ w
 
-other-head : (h : Head) (f : Fact) (b : Binding) → (h .symbol .0 ≡ f .symbol .0 → ⊥) → matchHead h f b ≡ none
-unfolding matchHead
-other-head h f b d = rw (ne-eqb _ _ d)
-
 -- ---- the search
 
 pub complete-any : (store : List Stored) (past : List Fired) (p : HeadPlace) (r : Rule) (active : FactId) (chosen : List FactId) (b : Binding) → complete [] past p r active chosen b ≡ complete store past p r active chosen b
@@ -183,13 +180,10 @@ pub record Trying (t : List ℕ) (q : Quest) (past : List (List ℕ)) (symbols i
   pub boundKept : bound ≡ bound₀
   pub same : tried t q past symbols ids args p left (idsOf k chosen₀) (bindingOf values₀ bound₀) i ≡ soughtOf t q past symbols ids args p left (idsOf k chosen₀) (bindingOf values₀ bound₀)
 
-no-fact : (active : FactId) (h : Head) (chosen : List FactId) (b : Binding) (s : Stored) → (h .symbol .0 ≡ s .fact .symbol .0 → ⊥) → candidateOf active h chosen b s ≡ none
+no-fact : (active : FactId) (h : Head) (chosen : List FactId) (b : Binding) (s : Stored) → matchHead h (s .fact) b ≡ none → candidateOf active h chosen b s ≡ none
 unfolding candidateOf
-no-fact active h chosen b s d = go (mayStand active chosen (s .id)) (no-head d)
+no-fact active h chosen b s = go (mayStand active chosen (s .id))
   where
-    no-head : (h .symbol .0 ≡ s .fact .symbol .0 → ⊥) → matchHead h (s .fact) b ≡ none
-    no-head d = other-head h (s .fact) b d
-
     go : (x : Bool) → matchHead h (s .fact) b ≡ none → _≡_ {A = Option Binding} (elim x [ true ↦ matchHead h (s .fact) b | false ↦ none ]) none
     go true e = e
     go false e = refl
@@ -260,64 +254,65 @@ module _ (t : List ℕ) (q : Quest) (past : List (List ℕ)) (symbols ids : List
       unfolding tryRow
       none-tried e = rw e
 
-      module _ (h : Pattern) (he : patternOf h ≡ headAt t p) where
-        pub other-symbol : (getD symbols i 0 ≡ h .symbol → ⊥) → Trying t q past symbols ids args p left k chosen₀ chosen values₀ values bound₀ bound (i + 1)
-        unfolding tryRow rowAt rowFact patternOf
-        other-symbol d =
-            next-row chosen (r .kept) (r .long)
-            (none-tried (no-fact (q .active) (headAt t p) (idsOf k chosen₀) (bindingOf values₀ bound₀) (rowAt symbols ids args i) (λ e. d (sym (ap (λ (x : Head). x .symbol .0) he ∙ e)))))
+      -- a row that does not show what the probe asks
+      pub passed-over : (w : Probe) → Probing (headAt t p) (bindingOf values₀ bound₀) w → {shows : Bool} → shows ≡ passesOf w symbols args i → shows ≡ false
+          → Trying t q past symbols ids args p left k chosen₀ chosen values₀ values bound₀ bound (i + 1)
+      unfolding rowAt
+      passed-over w pw e f =
+          next-row chosen (r .kept) (r .long)
+          (none-tried (no-fact (q .active) (headAt t p) (idsOf k chosen₀) (bindingOf values₀ bound₀) (rowAt symbols ids args i) (no-pass (headAt t p) (bindingOf values₀ bound₀) w pw symbols args i (sym e ∙ f))))
 
-        -- the row as a candidate: what the match left, in the loop's own terms
-        module _ (ok : Bool) (v : List ℤ) (y : List Bool)
-            (m : boundAs ok v y ≡ candidateOf (q .active) (patternOf h) (idsOf k chosen) (bindingOf values bound) (rowAt symbols ids args i)) where
-          as-candidate : boundAs ok v y ≡ candidateOf (q .active) (headAt t p) (idsOf k chosen₀) (bindingOf values₀ bound₀) (rowAt symbols ids args i)
+      -- the row as a candidate: what the match left, in the loop's own terms
+      module _ (ok : Bool) (v : List ℤ) (y : List Bool)
+          (m : boundAs ok v y ≡ candidateOf (q .active) (headAt t p) (idsOf k chosen) (bindingOf values bound) (rowAt symbols ids args i)) where
+        as-candidate : boundAs ok v y ≡ candidateOf (q .active) (headAt t p) (idsOf k chosen₀) (bindingOf values₀ bound₀) (rowAt symbols ids args i)
+        unfolding idsOf
+        as-candidate = rw (← r .kept, ← r .valuesKept, ← r .boundKept) m
+
+        pub no-match : ok ≡ false → Trying t q past symbols ids args p left k chosen₀ chosen values₀ values bound₀ bound (i + 1)
+        unfolding boundAs
+        no-match f = next-row chosen (r .kept) (r .long) (none-tried (sym as-candidate ∙ rw f refl))
+
+        -- a match, and the search behind it
+        module _ (yes : ok ≡ true) (few : k + left ≤ 4) {o : Outcome} {after : List ℕ} {b : Binding}
+            (s : Sought (soughtOf t q past symbols ids args (p + 22) (left - 1) (idsOf (k + 1) (set chosen k (getD ids i 0))) (bindingOf v y)) o (k + 1 + (left - 1)) (k + 1) (set chosen k (getD ids i 0)) after b) where
+          room : k < 4
+          room = let l : left ≡ 0 → ⊥ = r .someLeft in omega (arith, l)
+
+          chosen-are : idsOf (k + 1) (set chosen k (getD ids i 0)) ≡ idsOf k chosen₀ ++ (factId (getD ids i 0) ∷ [])
           unfolding idsOf
-          as-candidate = rw (← he, ← r .kept, ← r .valuesKept, ← r .boundKept) m
+          chosen-are = chosen-more chosen k (getD ids i 0) (r .whole) room ∙ ap (λ (l : List ℕ). map factId l ++ (factId (getD ids i 0) ∷ [])) (r .kept)
 
-          pub no-match : ok ≡ false → Trying t q past symbols ids args p left k chosen₀ chosen values₀ values bound₀ bound (i + 1)
-          unfolding boundAs
-          no-match f = next-row chosen (r .kept) (r .long) (none-tried (sym as-candidate ∙ rw f refl))
+          found-is : tryRow t q past symbols ids args p left (idsOf k chosen₀) (bindingOf values₀ bound₀) (rowAt symbols ids args i) ≡ foundAs o (idsOf (k + left) after) b
+          unfolding tryRow boundAs rowAt
+          found-is =
+              let same : k + 1 + (left - 1) ≡ k + left = let l : left ≡ 0 → ⊥ = r .someLeft in omega (arith, l) in
+              rw (← as-candidate, yes) (sym (ap (λ (n : ℕ). foundAs o (idsOf n after) b) (sym same) ∙ s .answer ∙ ap (λ (l : List FactId). soughtOf t q past symbols ids args (p + 22) (left - 1) l (bindingOf v y)) chosen-are))
 
-          -- a match, and the search behind it
-          module _ (yes : ok ≡ true) (few : k + left ≤ 4) {o : Outcome} {after : List ℕ} {b : Binding}
-              (s : Sought (soughtOf t q past symbols ids args (p + 22) (left - 1) (idsOf (k + 1) (set chosen k (getD ids i 0))) (bindingOf v y)) o (k + 1 + (left - 1)) (k + 1) (set chosen k (getD ids i 0)) after b) where
-            room : k < 4
-            room = let l : left ≡ 0 → ⊥ = r .someLeft in omega (arith, l)
+          after-kept : take k after ≡ take k chosen₀
+          after-kept = kept-before chosen₀ chosen after k (getD ids i 0) (s .before) (r .kept)
 
-            chosen-are : idsOf (k + 1) (set chosen k (getD ids i 0)) ≡ idsOf k chosen₀ ++ (factId (getD ids i 0) ∷ [])
-            unfolding idsOf
-            chosen-are = chosen-more chosen k (getD ids i 0) (r .whole) room ∙ ap (λ (l : List ℕ). map factId l ++ (factId (getD ids i 0) ∷ [])) (r .kept)
+          after-long : length after ≡ length chosen₀
+          after-long = s .long ∙ length-set chosen k (getD ids i 0) ∙ r .long
 
-            found-is : tryRow t q past symbols ids args p left (idsOf k chosen₀) (bindingOf values₀ bound₀) (rowAt symbols ids args i) ≡ foundAs o (idsOf (k + left) after) b
-            unfolding tryRow boundAs rowAt
-            found-is =
-                let same : k + 1 + (left - 1) ≡ k + left = let l : left ≡ 0 → ⊥ = r .someLeft in omega (arith, l) in
-                rw (← as-candidate, yes) (sym (ap (λ (n : ℕ). foundAs o (idsOf n after) b) (sym same) ∙ s .answer ∙ ap (λ (l : List FactId). soughtOf t q past symbols ids args (p + 22) (left - 1) l (bindingOf v y)) chosen-are))
+          pub found-nothing : o ≡ Nothing → Trying t q past symbols ids args p left k chosen₀ after values₀ values bound₀ bound (i + 1)
+          unfolding foundAs
+          found-nothing e = next-row after after-kept after-long (found-is ∙ rw e refl)
 
-            after-kept : take k after ≡ take k chosen₀
-            after-kept = kept-before chosen₀ chosen after k (getD ids i 0) (s .before) (r .kept)
+          -- any other answer is the whole search's
+          answer-found : (o ≡ Nothing → ⊥) → Sought (soughtOf t q past symbols ids args p left (idsOf k chosen₀) (bindingOf values₀ bound₀)) o (k + left) k chosen₀ after b
+          answer-found n = record {
+            answer = sym (row-first ∙ ap (λ (x : Found). orElse x (tried t q past symbols ids args p left (idsOf k chosen₀) (bindingOf values₀ bound₀) (i + 1))) found-is ∙ wins o (idsOf (k + left) after) b (tried t q past symbols ids args p left (idsOf k chosen₀) (bindingOf values₀ bound₀) (i + 1)) n) ∙ r .same;
+            before = after-kept;
+            long = after-long;
+          }
 
-            after-long : length after ≡ length chosen₀
-            after-long = s .long ∙ length-set chosen k (getD ids i 0) ∙ r .long
+          pub found-applies : o ≡ Applies → Sought (soughtOf t q past symbols ids args p left (idsOf k chosen₀) (bindingOf values₀ bound₀)) Applies (k + left) k chosen₀ after b
+          found-applies e = subst (λ (x : Outcome). Sought (soughtOf t q past symbols ids args p left (idsOf k chosen₀) (bindingOf values₀ bound₀)) x (k + left) k chosen₀ after b) e (answer-found (λ z. applies-not-nothing (sym e ∙ z)))
 
-            pub found-nothing : o ≡ Nothing → Trying t q past symbols ids args p left k chosen₀ after values₀ values bound₀ bound (i + 1)
-            unfolding foundAs
-            found-nothing e = next-row after after-kept after-long (found-is ∙ rw e refl)
-
-            -- any other answer is the whole search's
-            answer-found : (o ≡ Nothing → ⊥) → Sought (soughtOf t q past symbols ids args p left (idsOf k chosen₀) (bindingOf values₀ bound₀)) o (k + left) k chosen₀ after b
-            answer-found n = record {
-              answer = sym (row-first ∙ ap (λ (x : Found). orElse x (tried t q past symbols ids args p left (idsOf k chosen₀) (bindingOf values₀ bound₀) (i + 1))) found-is ∙ wins o (idsOf (k + left) after) b (tried t q past symbols ids args p left (idsOf k chosen₀) (bindingOf values₀ bound₀) (i + 1)) n) ∙ r .same;
-              before = after-kept;
-              long = after-long;
-            }
-
-            pub found-applies : o ≡ Applies → Sought (soughtOf t q past symbols ids args p left (idsOf k chosen₀) (bindingOf values₀ bound₀)) Applies (k + left) k chosen₀ after b
-            found-applies e = subst (λ (x : Outcome). Sought (soughtOf t q past symbols ids args p left (idsOf k chosen₀) (bindingOf values₀ bound₀)) x (k + left) k chosen₀ after b) e (answer-found (λ z. applies-not-nothing (sym e ∙ z)))
-
-            -- where the guard has no value the binding says nothing
-            pub found-stuck : o ≡ UndefinedGuard → (b′ : Binding) → Sought (soughtOf t q past symbols ids args p left (idsOf k chosen₀) (bindingOf values₀ bound₀)) UndefinedGuard (k + left) k chosen₀ after b′
-            found-stuck e b′ = any-binding (subst (λ (x : Outcome). Sought (soughtOf t q past symbols ids args p left (idsOf k chosen₀) (bindingOf values₀ bound₀)) x (k + left) k chosen₀ after b) e (answer-found (λ z. stuck-not-nothing (sym e ∙ z)))) b′
+          -- where the guard has no value the binding says nothing
+          pub found-stuck : o ≡ UndefinedGuard → (b′ : Binding) → Sought (soughtOf t q past symbols ids args p left (idsOf k chosen₀) (bindingOf values₀ bound₀)) UndefinedGuard (k + left) k chosen₀ after b′
+          found-stuck e b′ = any-binding (subst (λ (x : Outcome). Sought (soughtOf t q past symbols ids args p left (idsOf k chosen₀) (bindingOf values₀ bound₀)) x (k + left) k chosen₀ after b) e (answer-found (λ z. stuck-not-nothing (sym e ∙ z)))) b′
 
 -- ---- what each call asks
 
@@ -379,13 +374,13 @@ module _ (t : List ℕ) (q : Quest) (past : List (List ℕ)) (symbols ids : List
   unfolding firstOfQuest firstInstance lookupOf foundAs
   not-stored e b = record { answer = sym (rw (← fe, e) refl); long = refl }
 
-  module _ {f : Fact} (e : found ≡ Here f) (h : Pattern) (he : patternOf h ≡ headAt t (headsStart (q .shape) + 22 * q .place .head)) (ok : Bool) (v : List ℤ) (y : List Bool)
-      (m : boundAs ok v y ≡ matchHead (patternOf h) f unbound) where
+  module _ {f : Fact} (e : found ≡ Here f) (ok : Bool) (v : List ℤ) (y : List Bool)
+      (m : boundAs ok v y ≡ matchHead (headAt t (headsStart (q .shape) + 22 * q .place .head)) f unbound) where
     begins : firstOfQuest t q past symbols ids args ≡ fromActive (rowsFrom symbols ids args 0 (q .stored)) (pastOf (q .noted) past) (q .place) (ruleOf t (q .shape)) (q .active) (boundAs ok v y)
     unfolding firstOfQuest firstInstance lookupOf
     begins =
-        let own : getD (heads (ruleOf t (q .shape))) (q .place .head) noHead ≡ patternOf h
-        = ap (λ (l : List Head). getD l (q .place .head) noHead) (rule-heads t (q .shape) (r .keptFew)) ∙ heads-at t (headsStart (q .shape)) (q .shape .heads) (q .place .head) noHead (r .headIn) ∙ sym he in
+        let own : getD (heads (ruleOf t (q .shape))) (q .place .head) noHead ≡ headAt t (headsStart (q .shape) + 22 * q .place .head)
+        = ap (λ (l : List Head). getD l (q .place .head) noHead) (rule-heads t (q .shape) (r .keptFew)) ∙ heads-at t (headsStart (q .shape)) (q .shape .heads) (q .place .head) noHead (r .headIn) in
         rw (← fe, e, own, ← m) refl
 
     pub no-place : ok ≡ false → (b : Binding) → Answered (firstOfQuest t q past symbols ids args) Nothing (q .shape .heads) chosen₀ chosen₀ b

@@ -4,19 +4,26 @@ use mathlib.Core.Path.{_≡_}
 use mathlib.Core.Bool.{Bool, true, false, cond}
 use mathlib.Core.Option.{Option, none, some}
 use mathlib.Core.List.{List, [], _∷_, map}
+use lib.Dec.{eqb}
 use lib.IntN.{ℤ, pos}
 use lib.ListN.{getD, take, length}
+use Rattle.numbers.specs.declared.Value.{Value}
+use Rattle.numbers.specs.declared.Value.the-variants.{Number, Undefined}
+use Rattle.numbers.specs.Numbers.{equal}
 use Rattle.model.specs.declared.FactId.{FactId}
 use Rattle.model.specs.declared.Symbol.{Symbol}
 use Rattle.model.specs.declared.Fact.{Fact}
 use Rattle.model.specs.declared.Stored.{Stored}
 use Rattle.model.specs.declared.Binding.{Binding}
+use Rattle.model.specs.declared.Slot.{Slot}
+use Rattle.model.specs.declared.Slot.the-variants.{Unused, Constant, Variable, Bad}
+use Rattle.model.specs.Guards.{variableValue}
 use Rattle.model.specs.Limits.{storeRoom, historyRoom, mostHeads}
 use Rattle.model.specs.Table.{Head, headsFrom, headsStart, guardsStart, itemsStart, ruleOf}
 use Rattle.model.specs.Search.{Fired, Found, nothing, undefinedGuard, applies, mayStand, search, firstInstance}
 use Rattle.model.specs.Matching.{matchHead}
 use Rattle.model.specs.Steps.{pruned}
-use Rattle.search.specs.declared.Pattern.{Pattern}
+use Rattle.search.specs.declared.Probe.{Probe}
 use Rattle.search.specs.declared.Quest.{Quest}
 use Rattle.search.specs.declared.Lookup.{Lookup}
 use Rattle.search.specs.declared.Lookup.the-variants.{Here, Gone}
@@ -42,9 +49,6 @@ bindingOf values bound = record { values = values; bound = bound }
 unfoldable pub boundAs : Bool → List ℤ → List Bool → Option Binding
 boundAs ok values bound = cond ok (some (bindingOf values bound)) none
 
-unfoldable pub patternOf : Pattern → Head
-patternOf h = record { symbol = record { 0 = h .symbol }; slots = h .s0 ∷ h .s1 ∷ h .s2 ∷ h .s3 ∷ [] }
-
 -- ---- the store's columns
 
 unfoldable pub rowFact : List ℕ → List ℤ → ℕ → Fact
@@ -63,6 +67,24 @@ rowAt symbols ids args i = record { id = factId (getD ids i 0); fact = rowFact s
 unfoldable pub rowsFrom : List ℕ → List ℕ → List ℤ → ℕ → ℕ → List Stored
 rowsFrom symbols ids args i zero = []
 rowsFrom symbols ids args i (suc n) = rowAt symbols ids args i ∷ rowsFrom symbols ids args (suc i) n
+
+-- ---- a probe
+
+-- the value that an argument must have to match a slot, where that is known before the match
+unfoldable pub settledOf : Binding → Slot → Value
+settledOf b Unused = Undefined
+settledOf b (Constant z) = Number z
+settledOf b (Variable v) = variableValue b v
+settledOf b Bad = Undefined
+
+-- a probe asks for the head's symbol, and at its place, if it is settled, for the value that the head's slot settles
+pub record Probing (h : Head) (b : Binding) (r : Probe) : Type 0 where
+  pub symbolIs : r .symbol ≡ h .symbol .0
+  pub within : r .place < 4
+  pub settles : r .settled ≡ true → settledOf b (getD (h .slots) (r .place) Unused) ≡ Number (r .value)
+
+unfoldable pub passesOf : Probe → List ℕ → List ℤ → ℕ → Bool
+passesOf r symbols args i = cond (eqb (r .symbol) (getD symbols i 0)) (cond (r .settled) (equal (r .value) (getD args (4 * i + r .place) (pos 0))) true) false
 
 -- ---- the history's entries: the rule, and the identifiers in head order
 

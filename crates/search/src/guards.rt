@@ -1,12 +1,13 @@
 // Expressions and guards under a binding of the variables, which is lent as its two arrays.
-use model::Expression;
 use model::Slot;
 use numbers::Truth;
 use numbers::Value;
+use records::slots;
 ghost use mathlib.Core.Path.{_≡_};
 ghost use Prim.Native.Nat.{_+_, _*_, _≤_};
 ghost use lib.ListN.{length};
 ghost use Rattle.model.specs.Guards.{variableValue, slotValue, expressionValue, comparisonValue, guardValue};
+ghost use Rattle.model.specs.Slots.{expressionAt};
 ghost use Rattle.model.specs.Table.{guardAt, guardsFrom};
 ghost use Rattle.search.specs.Views.{bindingOf};
 
@@ -34,16 +35,14 @@ pub fn slot_value(s: Slot, values: &[i32; 16], bound: &[bool; 16]) -> Value
     }
 }
 
-pub fn expression_value(e: Expression, values: &[i32; 16], bound: &[bool; 16]) -> Value
-    ensures { λ r. ⌜ r ≡ expressionValue (bindingOf (now (values .entry)) (now (bound .entry))) e ⌝ }
+// The value of the expression at p.
+pub fn value_at(t: &[u8], p: usize, values: &[i32; 16], bound: &[bool; 16]) -> Value
+    requires { ⌜ p + 11 ≤ length (now t) ⌝ }
+    ensures { λ r. ⌜ r ≡ expressionValue (bindingOf (now (values .entry)) (now (bound .entry))) (expressionAt (now (t .entry)) p) ⌝ }
 {
-    let left = e.left;
-    let right = e.right;
-    numbers::evaluate(
-        e.operation,
-        slot_value(left, values, bound),
-        slot_value(right, values, bound),
-    )
+    let left = slot_value(slots::slot_at(t, p + 1), values, bound);
+    let right = slot_value(slots::slot_at(t, p + 6), values, bound);
+    numbers::evaluate(t[p], left, right)
 }
 
 // The comparison whose record stands at p.
@@ -51,13 +50,9 @@ pub fn comparison_value(t: &[u8], p: usize, values: &[i32; 16], bound: &[bool; 1
     requires { ⌜ p + 24 ≤ length (now t) ⌝ }
     ensures { λ r. ⌜ r ≡ comparisonValue (bindingOf (now (values .entry)) (now (bound .entry))) (guardAt (now (t .entry)) p) ⌝ }
 {
-    let left = crate::decode::expression_within(t, p + 2);
-    let right = crate::decode::expression_within(t, p + 13);
-    numbers::compare(
-        t[p + 1],
-        expression_value(left, values, bound),
-        expression_value(right, values, bound),
-    )
+    let left = value_at(t, p + 2, values, bound);
+    let right = value_at(t, p + 13, values, bound);
+    numbers::compare(t[p + 1], left, right)
 }
 
 // The n comparisons from p on, read up to the first that is not true.

@@ -4,21 +4,20 @@ use model::Fact;
 use model::FactId;
 use model::HeadPlace;
 use model::RuleShape;
-use model::Slot;
 
-pub mod decode;
 pub mod guards;
 pub mod history;
 pub mod matching;
 pub mod partners;
+pub mod probing;
 
-// A head, decoded once for all the rows that are tried for it.
-pub struct Pattern {
+// What a row must show before it is tried for a head: its symbol, and one argument where the head has a constant or a variable
+// that is bound.
+pub struct Probe {
     pub symbol: u8,
-    pub s0: Slot,
-    pub s1: Slot,
-    pub s2: Slot,
-    pub s3: Slot,
+    pub settled: bool,
+    pub place: usize,
+    pub value: i32,
 }
 
 // What a search is for: the active fact at a head place, the rule there, and how much of the store and the history is in use.

@@ -1,11 +1,15 @@
 // Matching a head with a fact. The binding is two arrays that the caller lends; after a match that fails they mean nothing.
-use crate::Pattern;
 use model::Fact;
 use model::Slot;
+use records::slots;
 ghost use mathlib.Core.Path.{_≡_};
+ghost use Prim.Native.Nat.{_+_, _≤_};
+ghost use lib.ListN.{length};
 ghost use Rattle.model.specs.Matching.{matchVariable, matchSlot, matchHead};
+ghost use Rattle.model.specs.Slots.{slotAt};
+ghost use Rattle.model.specs.Table.{headAt};
 ghost use Rattle.numbers.specs.Numbers.{equal};
-ghost use Rattle.search.specs.Views.{bindingOf, boundAs, patternOf};
+ghost use Rattle.search.specs.Views.{bindingOf, boundAs};
 
 pub fn same(a: i32, b: i32) -> bool
     ensures { λ r. ⌜ r ≡ equal a b ⌝ }
@@ -40,25 +44,37 @@ pub fn match_slot(s: Slot, a: i32, values: &mut [i32; 16], bound: &mut [bool; 16
     }
 }
 
-pub fn match_head(h: Pattern, f: Fact, values: &mut [i32; 16], bound: &mut [bool; 16]) -> bool
-    ensures { λ r. ⌜ boundAs r (now (values .exit)) (now (bound .exit)) ≡ matchHead (patternOf h) f (bindingOf (now (values .entry)) (now (bound .entry))) ⌝ }
+// The slot at p with an argument.
+fn match_at(t: &[u8], p: usize, a: i32, values: &mut [i32; 16], bound: &mut [bool; 16]) -> bool
+    requires { ⌜ p + 5 ≤ length (now t) ⌝ }
+    ensures { λ r. ⌜ boundAs r (now (values .exit)) (now (bound .exit)) ≡ matchSlot (slotAt (now (t .entry)) p) a (bindingOf (now (values .entry)) (now (bound .entry))) ⌝ }
+{
+    match_slot(slots::slot_at(t, p), a, values, bound)
+}
+
+// The head at p with a fact.
+pub fn match_head(
+    t: &[u8],
+    p: usize,
+    f: Fact,
+    values: &mut [i32; 16],
+    bound: &mut [bool; 16],
+) -> bool
+    requires { ⌜ p + 22 ≤ length (now t) ⌝ }
+    ensures { λ r. ⌜ boundAs r (now (values .exit)) (now (bound .exit)) ≡ matchHead (headAt (now (t .entry)) p) f (bindingOf (now (values .entry)) (now (bound .entry))) ⌝ }
 {
     let symbol = f.symbol;
-    if h.symbol != symbol.0 {
+    if t[p + 1] != symbol.0 {
         return false;
     }
-    let s0 = h.s0;
-    if !match_slot(s0, f.a0, values, bound) {
+    if !match_at(t, p + 2, f.a0, values, bound) {
         return false;
     }
-    let s1 = h.s1;
-    if !match_slot(s1, f.a1, values, bound) {
+    if !match_at(t, p + 7, f.a1, values, bound) {
         return false;
     }
-    let s2 = h.s2;
-    if !match_slot(s2, f.a2, values, bound) {
+    if !match_at(t, p + 12, f.a2, values, bound) {
         return false;
     }
-    let s3 = h.s3;
-    match_slot(s3, f.a3, values, bound)
+    match_at(t, p + 17, f.a3, values, bound)
 }

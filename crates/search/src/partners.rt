@@ -2,7 +2,6 @@
 // stored facts by rising identifier. The first answer that is not "nothing" wins.
 use crate::Lookup;
 use crate::Outcome;
-use crate::Pattern;
 use crate::Quest;
 use model::Fact;
 use model::FactId;
@@ -14,8 +13,8 @@ ghost use Prim.Native.Nat.{_+_, _≤_, _<_};
 ghost use lib.ListN.{length};
 ghost use mathlib.Core.List.{[]};
 ghost use Rattle.model.specs.Search.{complete, storedFact};
-ghost use Rattle.model.specs.Table.{ruleOf};
-ghost use Rattle.search.specs.Views.{idsOf, Held, bindingOf, boundAs, patternOf, rowFact, rowAt, rowsFrom, pastOf, candidateOf, foundAs, lookupOf, soughtOf, Ready, Sought, firstOfQuest, Posed, Answered};
+ghost use Rattle.model.specs.Table.{headAt, ruleOf};
+ghost use Rattle.search.specs.Views.{idsOf, Held, bindingOf, boundAs, rowFact, rowAt, rowsFrom, pastOf, candidateOf, foundAs, lookupOf, soughtOf, Ready, Sought, firstOfQuest, Posed, Answered};
 
 // The fact of a row of the store's columns.
 pub fn fact_at(symbols: &[u8; 128], args: &[i32; 512], i: usize) -> Fact
@@ -34,7 +33,8 @@ pub fn fact_at(symbols: &[u8; 128], args: &[i32; 512], i: usize) -> Fact
 
 // A row as the partner for a head: neither the active fact nor one that is chosen, and it matches.
 pub fn candidate<'a>(
-    h: Pattern,
+    t: &[u8],
+    p: usize,
     i: usize,
     active: FactId,
     symbols: &'a [u8; 128],
@@ -45,8 +45,8 @@ pub fn candidate<'a>(
     values: &mut [i32; 16],
     bound: &mut [bool; 16],
 ) -> bool
-    requires { ⌜ (i < 128) × Held (now chosen) k ⌝ }
-    ensures { λ r. ⌜ boundAs r (now (values .exit)) (now (bound .exit)) ≡ candidateOf active (patternOf h) (idsOf k (now (chosen .entry))) (bindingOf (now (values .entry)) (now (bound .entry))) (rowAt (now (symbols .entry)) (now (ids .entry)) (now (args .entry)) i) ⌝ }
+    requires { ⌜ (p + 22 ≤ length (now t)) × ((i < 128) × Held (now chosen) k) ⌝ }
+    ensures { λ r. ⌜ boundAs r (now (values .exit)) (now (bound .exit)) ≡ candidateOf active (headAt (now (t .entry)) p) (idsOf k (now (chosen .entry))) (bindingOf (now (values .entry)) (now (bound .entry))) (rowAt (now (symbols .entry)) (now (ids .entry)) (now (args .entry)) i) ⌝ }
 {
     let id = ids[i];
     if id == active.0 {
@@ -55,7 +55,7 @@ pub fn candidate<'a>(
     if crate::history::is_among(id, chosen, 0, k) {
         return false;
     }
-    crate::matching::match_head(h, fact_at(symbols, args, i), values, bound)
+    crate::matching::match_head(t, p, fact_at(symbols, args, i), values, bound)
 }
 
 // A complete match: passed over if it is in the history, else its guard decides.
@@ -130,17 +130,28 @@ pub fn seek<'a>(
             bound,
         );
     }
-    let h = crate::decode::head_within(t, p);
-    let wanted = h.symbol;
+    let probe = crate::probing::probe(t, p, values, bound);
     let n = q.stored;
     let mut i: usize = 0;
     while i < n {
         let at = i;
         i += 1;
-        if symbols[at] == wanted {
+        if crate::probing::passes(probe, symbols, args, at) {
             let mut v = *values;
             let mut b = *bound;
-            if candidate(h, at, active, symbols, ids, args, chosen, k, &mut v, &mut b) {
+            if candidate(
+                t,
+                p,
+                at,
+                active,
+                symbols,
+                ids,
+                args,
+                chosen,
+                k,
+                &mut v,
+                &mut b,
+            ) {
                 chosen[k] = ids[at];
                 let r = seek(
                     t,
@@ -218,10 +229,9 @@ pub fn first_instance<'a>(
             let start = shape.start + 1;
             let heads = shape.heads as usize;
             let at = start + 22 * (place.head as usize);
-            let h = crate::decode::head_within(t, at);
             *values = [0i32; 16];
             *bound = [false; 16];
-            if crate::matching::match_head(h, f, values, bound) {
+            if crate::matching::match_head(t, at, f, values, bound) {
                 return seek(
                     t,
                     start,

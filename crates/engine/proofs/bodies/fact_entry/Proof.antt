@@ -10,11 +10,11 @@ add-symbol c = search needs
 shared-slice-read-symbol : tie.Need-shared-slice-read-symbol
 shared-slice-read-symbol c = search needs
 
-add-argument : tie.Need-add-argument
-add-argument c = search needs
+add-value-at : tie.Need-add-value-at
+add-value-at c = search needs
 
-argument-requires : tie.Need-argument-requires
-argument-requires c κs = search needs
+value-at-requires : tie.Need-value-at-requires
+value-at-requires c κs = search needs
 
 enum-known-a0 : tie.Need-enum-known-a0
 enum-known-a0 c = search needs
@@ -28,11 +28,11 @@ not-made-requires c κs = search needs
 returns : tie.Need-returns
 returns c = search (undefined-0, needs)
 
-add-argument-2 : tie.Need-add-argument-2
-add-argument-2 c = search needs
+add-value-at-2 : tie.Need-add-value-at-2
+add-value-at-2 c = search needs
 
-argument-requires-2 : tie.Need-argument-requires-2
-argument-requires-2 c κs = search needs
+value-at-requires-2 : tie.Need-value-at-requires-2
+value-at-requires-2 c κs = search needs
 
 enum-known-a1 : tie.Need-enum-known-a1
 enum-known-a1 c = search needs
@@ -46,11 +46,11 @@ not-made-requires-2 c κs = search needs
 returns-2 : tie.Need-returns-2
 returns-2 c = search (undefined-1, needs)
 
-add-argument-3 : tie.Need-add-argument-3
-add-argument-3 c = search needs
+add-value-at-3 : tie.Need-add-value-at-3
+add-value-at-3 c = search needs
 
-argument-requires-3 : tie.Need-argument-requires-3
-argument-requires-3 c κs = search needs
+value-at-requires-3 : tie.Need-value-at-requires-3
+value-at-requires-3 c κs = search needs
 
 enum-known-a2 : tie.Need-enum-known-a2
 enum-known-a2 c = search needs
@@ -64,11 +64,11 @@ not-made-requires-3 c κs = search needs
 returns-3 : tie.Need-returns-3
 returns-3 c = search (undefined-2, needs)
 
-add-argument-4 : tie.Need-add-argument-4
-add-argument-4 c = search needs
+add-value-at-4 : tie.Need-add-value-at-4
+add-value-at-4 c = search needs
 
-argument-requires-4 : tie.Need-argument-requires-4
-argument-requires-4 c κs = search needs
+value-at-requires-4 : tie.Need-value-at-requires-4
+value-at-requires-4 c κs = search needs
 
 enum-known-a3 : tie.Need-enum-known-a3
 enum-known-a3 c = search needs
@@ -91,26 +91,26 @@ fact-entry-spec =
     (tie.spec
     add-symbol
     shared-slice-read-symbol
-    add-argument
-    argument-requires
+    add-value-at
+    value-at-requires
     enum-known-a0
     enum-told
     not-made-requires
     returns
-    add-argument-2
-    argument-requires-2
+    add-value-at-2
+    value-at-requires-2
     enum-known-a1
     enum-told-2
     not-made-requires-2
     returns-2
-    add-argument-3
-    argument-requires-3
+    add-value-at-3
+    value-at-requires-3
     enum-known-a2
     enum-told-3
     not-made-requires-3
     returns-3
-    add-argument-4
-    argument-requires-4
+    add-value-at-4
+    value-at-requires-4
     enum-known-a3
     enum-told-4
     not-made-requires-4

@@ -1,36 +1,42 @@
--- `search::guards::comparison_value` meets its contract: the record is decoded where it lies, and both sides are worked out.
+-- `search::guards::comparison_value` meets its contract: both sides are worked out where they lie.
 use Rattle.search.proofs.Deciding.{comparison-is}
 use borrow.Author.Needs.{needs}
 use Rattle.search.proofs.guards.comparison_value.Statement.{statement}
 use Rattle.search.proofs.guards.comparison_value.Tie as tie
+use Rattle.search.proofs.guards.comparison_value.Reads as reads
+use Rattle.search.proofs.guards.comparison_value.Lts as lts
+use Rattle.numbers.proofs.compare.Reads as compare-reads
+use Rattle.search.proofs.guards.value_at.Reads as value-at-reads
 
-add-expression-within : tie.Need-add-expression-within
-add-expression-within c = search needs
+-- src/guards.rt:53:28
+add-value-at : tie.Need-add-value-at
+add-value-at c = search needs
 
-expression-within-requires : tie.Need-expression-within-requires
-expression-within-requires c κs = search needs
+-- src/guards.rt:53:9
+value-at-requires : tie.Need-value-at-requires
+value-at-requires c κs = search needs
 
-add-expression-within-2 : tie.Need-add-expression-within-2
-add-expression-within-2 c = search needs
+-- src/guards.rt:54:29
+add-value-at-2 : tie.Need-add-value-at-2
+add-value-at-2 c = search needs
 
-expression-within-requires-2 : tie.Need-expression-within-requires-2
-expression-within-requires-2 c κs = search needs
+-- src/guards.rt:54:9
+value-at-requires-2 : tie.Need-value-at-requires-2
+value-at-requires-2 c κs = search needs
 
+-- src/guards.rt:55:24
 add-compare : tie.Need-add-compare
 add-compare c = search needs
 
+-- src/guards.rt:55:22
 shared-slice-read-compare : tie.Need-shared-slice-read-compare
 shared-slice-read-compare c = search needs
 
-expression-value-requires : tie.Need-expression-value-requires
-expression-value-requires c κs = search needs
-
-expression-value-requires-2 : tie.Need-expression-value-requires-2
-expression-value-requires-2 c κs = search needs
-
+-- src/guards.rt:55:5
 compare-requires : tie.Need-compare-requires
 compare-requires c κs = search needs
 
+-- src/guards.rt:49:1
 returns : tie.Need-returns
 returns c = search comparison-is
 
@@ -38,13 +44,11 @@ pub comparison-value-spec : {M : Type 1} → statement M
 comparison-value-spec =
     tie.close
     (tie.spec
-    add-expression-within
-    expression-within-requires
-    add-expression-within-2
-    expression-within-requires-2
+    add-value-at
+    value-at-requires
+    add-value-at-2
+    value-at-requires-2
     add-compare
     shared-slice-read-compare
-    expression-value-requires
-    expression-value-requires-2
     compare-requires
     returns)
