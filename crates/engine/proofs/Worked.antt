@@ -116,24 +116,25 @@ after-after : (xs : List Entry) (e : Entry) (o : Option (List Entry)) → after 
 after-after xs e none = refl
 after-after xs e (some ys) = ap some (sym (append-assoc xs (e ∷ []) ys))
 
-pub record Working (b : Binding) (t : List ℕ) (p n : ℕ) (entries : List Entry) (at i : ℕ) : Type 0 where
+pub record Working (b : Binding) (t : List ℕ) (p n : ℕ) (body : Body) (at i : ℕ) : Type 0 where
+  pub fine : body .ok ≡ true
   pub within : i ≤ n
   pub few : n ≤ 4
-  pub long : length entries ≡ 4
+  pub long : length (body .entries) ≡ 4
   pub lies : ItemsLie t at (n - i)
-  pub same : after (take i entries) (bodyEntries b (itemsFrom t at (n - i))) ≡ bodyEntries b (itemsFrom t p n)
+  pub same : after (take i (body .entries)) (bodyEntries b (itemsFrom t at (n - i))) ≡ bodyEntries b (itemsFrom t p n)
 
 module _ (b : Binding) (t : List ℕ) (p n : ℕ) where
-  pub work-none : (x : Entry) → n ≤ 4 → ItemsLie t p n → Working b t p n (replicate 4 x) p 0
+  pub work-none : (x : Entry) → n ≤ 4 → ItemsLie t p n → Working b t p n (record { ok = true; entries = replicate 4 x }) p 0
   work-none x f l =
       let e : n - 0 ≡ n = omega arith in
-      record { within = omega arith; few = f; long = rw length-replicate; lies = rw e l; same = rw e (none-before (bodyEntries b (itemsFrom t p n))) }
+      record { fine = refl; within = omega arith; few = f; long = rw length-replicate; lies = rw e l; same = rw e (none-before (bodyEntries b (itemsFrom t p n))) }
     where
       none-before : (o : Option (List Entry)) → after [] o ≡ o
       none-before none = refl
       none-before (some ys) = refl
 
-  module _ {entries : List Entry} {at i : ℕ} (r : Working b t p n entries at i) where
+  module _ {body : Body} {at i : ℕ} (r : Working b t p n body at i) where
     pub item-lies : i < n → (at < length t) × (behindItem t at ≤ length t)
     item-lies h = let l = lie-first t at (n - i) (omega arith) (r .lies) in (l .0, l .1 .0)
 
@@ -151,28 +152,29 @@ module _ (b : Binding) (t : List ℕ) (p n : ℕ) where
       unfolding madeOf
       left-more y1 = left-is h ∙ rw (← me, y1) refl
 
-      pub work-stops : m .ok ≡ false → WorkedOut n (record { ok = false; entries = entries }) (bodyEntries b (itemsFrom t p n))
+      pub work-stops : m .ok ≡ false → WorkedOut n (record { ok = false; entries = body .entries }) (bodyEntries b (itemsFrom t p n))
       unfolding madeOf bodyOf
       work-stops f = record { made = sym (rw (left-is h, ← me, f) refl) ∙ r .same; whole = r .long }
 
-      pub work-more : m .ok ≡ true → {next : ℕ} → next ≡ behindItem t at → Working b t p n (set entries i (m .entry)) next (i + 1)
+      pub work-more : m .ok ≡ true → {next : ℕ} → next ≡ behindItem t at → Working b t p n (record { ok = body .ok; entries = set (body .entries) i (m .entry) }) next (i + 1)
       unfolding madeOf
       work-more y1 {next} q =
-          let w : i < length entries = omega (arith, r .long, r .few) in
+          let w : i < length (body .entries) = omega (arith, r .long, r .few) in
           record {
+            fine = r .fine;
             within = omega arith;
             few = r .few;
             long = rw (length-set, r .long);
             lies = let e : n - i - 1 ≡ n - (i + 1) = omega arith in rw q (rw e at (lie-first t at (n - i) (omega arith) (r .lies) .1 .1));
             same =
-                rw (add-one i, take-suc-set entries i (m .entry) w, ← add-one i, q)
-                (sym (after-after (take i entries) (m .entry) (bodyEntries b (itemsFrom t (behindItem t at) (n - (i + 1)))))
-                ∙ sym (ap (after (take i entries)) (left-more y1)) ∙ r .same);
+                rw (add-one i, take-suc-set (body .entries) i (m .entry) w, ← add-one i, q)
+                (sym (after-after (take i (body .entries)) (m .entry) (bodyEntries b (itemsFrom t (behindItem t at) (n - (i + 1)))))
+                ∙ sym (ap (after (take i (body .entries))) (left-more y1)) ∙ r .same);
           }
 
-    pub work-done : n ≤ i → WorkedOut n (record { ok = true; entries = entries }) (bodyEntries b (itemsFrom t p n))
+    pub work-done : n ≤ i → WorkedOut n body (bodyEntries b (itemsFrom t p n))
     unfolding bodyOf bodyEntries itemsFrom
     work-done h =
         let e : i ≡ n = omega (arith, r .within) in
         let z : n - i ≡ 0 = omega arith in
-        record { made = ap some (sym (append-nil (take n entries)) ∙ ap (λ (k : ℕ). take k entries ++ []) (sym e)) ∙ (rw z at (r .same)); whole = r .long }
+        record { made = rw (r .fine) (ap some (sym (append-nil (take n (body .entries))) ∙ ap (λ (k : ℕ). take k (body .entries) ++ []) (sym e)) ∙ (rw z at (r .same))); whole = r .long }

@@ -87,7 +87,10 @@ pub fn work_out(t: &[u8], p: usize, n: usize, values: &[i32; 16], bound: &[bool;
     ensures { λ r. ⌜ WorkedOut n r (bodyEntries (bindingOf (now (values .entry)) (now (bound .entry))) (itemsFrom (now (t .entry)) p n)) ⌝ }
 {
     let none = Entry::empty();
-    let mut entries = [none; 4];
+    let mut body = Body {
+        ok: true,
+        entries: [none; 4],
+    };
     let mut at = p;
     let mut i: usize = 0;
     while i < n {
@@ -98,16 +101,11 @@ pub fn work_out(t: &[u8], p: usize, n: usize, values: &[i32; 16], bound: &[bool;
         let made = item_entry(t, here, values, bound);
         let e = made.entry;
         if made.ok {
-            entries[k] = e;
+            body.entries[k] = e;
         } else {
-            return Body {
-                ok: false,
-                entries: entries,
-            };
+            body.ok = false;
+            return body;
         }
     }
-    Body {
-        ok: true,
-        entries: entries,
-    }
+    body
 }

@@ -3,21 +3,19 @@ use mathlib.Core.Path.{_≡_, refl, sym, ap, _∙_}
 use mathlib.Core.Bool.{Bool, true, false, not}
 use mathlib.Core.Option.{Option, none, some}
 use mathlib.Core.List.{List, [], _∷_}
-use Prim.Native.Nat.{ℕ, _+_, _<_, _≤_}
+use Prim.Native.Nat.{ℕ, _+_, _*_, _<_, _≤_}
 use native.Mathlib.Omega.{arith}
 use lib.Dec.{eqb}
 use lib.IntN.{ℤ, pos}
 use lib.ListN.{getD, set, length}
 use borrow.Author.Tests.{eq-eqb, ne-eqb, lt-ltb, le-ltb, not-true, not-false}
 use Rattle.numbers.specs.Numbers.{equal}
-use Rattle.model.specs.declared.Slot.{Slot}
-use Rattle.model.specs.declared.Slot.the-variants.{Unused, Constant, Variable, Bad}
-use Rattle.model.specs.declared.Fact.{Fact}
 use Rattle.model.specs.declared.Binding.{Binding}
-use Rattle.model.specs.Matching.{boundIf, withVariable, matchVariable, matchSlot, andSlot, matchSlots, arguments, matchHead}
-use Rattle.model.specs.Slots.{slotAt}
+use Rattle.model.specs.Matching.{boundIf, withVariable, matchVariable, matchSlot, andSlot, matchSlots, matchHead}
+use Rattle.wire.specs.Wire.{u32At, signedOf}
+use Rattle.model.specs.Slots.{slotBy, slotAt}
 use Rattle.model.specs.Table.{headAt}
-use Rattle.search.specs.Views.{bindingOf, boundAs}
+use Rattle.search.specs.Views.{bindingOf, boundAs, rowFact}
 
 same-answer : (x : Bool) (values : List ℤ) (bound : List Bool) → boundAs x values bound ≡ boundIf x (bindingOf values bound)
 unfolding boundAs
@@ -38,27 +36,32 @@ module _ (v : ℕ) (a : ℤ) (values : List ℤ) (bound : List Bool) where
   unfolding boundAs matchVariable withVariable
   binds l h e = rw (lt-ltb v 16 l, h, e)
 
--- ---- a slot
+-- ---- a slot, by its tag and its value
 
-module _ {s : Slot} (a : ℤ) (values : List ℤ) (bound : List Bool) where
-  pub slot-unused : s ≡ Unused → boundAs true values bound ≡ matchSlot s a (bindingOf values bound)
-  unfolding boundAs matchSlot
-  slot-unused e = rw e
+module _ (t : List ℕ) (p : ℕ) (a : ℤ) (values : List ℤ) (bound : List Bool) {value : ℕ} (ve : value ≡ u32At t (p + 1)) where
+  pub slot-variable : getD t p 0 ≡ 2 → value < 16 → {y : ℤ} {m : Option Binding} → m ≡ matchVariable (bindingOf values bound) value y → y ≡ a → m ≡ matchSlot (slotAt t p) a (bindingOf values bound)
+  unfolding matchSlot slotAt slotBy
+  slot-variable e l q y = rw (e, ← ve, lt-ltb value 16 l, ← y) q
 
-  pub slot-constant : {c : ℤ} → s ≡ Constant c → {r : Bool} {z y : ℤ} → r ≡ equal z y → z ≡ c → y ≡ a → boundAs r values bound ≡ matchSlot s a (bindingOf values bound)
-  unfolding matchSlot
-  slot-constant e {r} q z y = rw (e, ← z, ← y, ← q) (same-answer r values bound)
+  pub slot-above : getD t p 0 ≡ 2 → 16 ≤ value → boundAs false values bound ≡ matchSlot (slotAt t p) a (bindingOf values bound)
+  unfolding boundAs matchSlot slotAt slotBy
+  slot-above e l = rw (e, ← ve, le-ltb value 16 l)
 
-  pub slot-variable : {v : ℕ} → s ≡ Variable v → {y : ℤ} {m : Option Binding} → m ≡ matchVariable (bindingOf values bound) v y → y ≡ a → m ≡ matchSlot s a (bindingOf values bound)
-  unfolding matchSlot
-  slot-variable e q y = rw (e, ← y) q
+  pub slot-constant : getD t p 0 ≡ 1 → {r : Bool} {z y : ℤ} → r ≡ equal z y → z ≡ signedOf value → y ≡ a → boundAs r values bound ≡ matchSlot (slotAt t p) a (bindingOf values bound)
+  unfolding matchSlot slotAt slotBy
+  slot-constant e {r} q z y = rw (e, ← ve, ← z, ← y, ← q) (same-answer r values bound)
 
-  pub slot-bad : s ≡ Bad → boundAs false values bound ≡ matchSlot s a (bindingOf values bound)
-  unfolding boundAs matchSlot
-  slot-bad e = rw e
+  pub slot-unused : getD t p 0 ≡ 0 → value ≡ 0 → boundAs true values bound ≡ matchSlot (slotAt t p) a (bindingOf values bound)
+  unfolding boundAs matchSlot slotAt slotBy
+  slot-unused e z = rw (e, ← ve, z)
 
-pub slot-read : (t : List ℕ) (p : ℕ) (a : ℤ) (b : Binding) {s : Slot} {y : ℤ} {m : Option Binding} → m ≡ matchSlot s y b → s ≡ slotAt t p → y ≡ a → m ≡ matchSlot (slotAt t p) a b
-slot-read t p a b m s y = rw (← s, ← y) m
+  pub slot-spoilt : getD t p 0 ≡ 0 → (value ≡ 0 → ⊥) → boundAs false values bound ≡ matchSlot (slotAt t p) a (bindingOf values bound)
+  unfolding boundAs matchSlot slotAt slotBy
+  slot-spoilt e z = rw (e, ← ve, ne-eqb value 0 z)
+
+  pub slot-none : (getD t p 0 ≡ 2 → ⊥) → (getD t p 0 ≡ 1 → ⊥) → (getD t p 0 ≡ 0 → ⊥) → boundAs false values bound ≡ matchSlot (slotAt t p) a (bindingOf values bound)
+  unfolding boundAs matchSlot slotAt slotBy
+  slot-none u v w = rw (ne-eqb _ 0 w, ne-eqb _ 1 v, ne-eqb _ 2 u)
 
 -- ---- a head: its slots in turn, as long as each matches
 
@@ -71,38 +74,38 @@ missed : (ok : Bool) (values : List ℤ) (bound : List Bool) {m : Option Binding
 unfolding boundAs
 missed ok values bound e t = sym e ∙ rw (not-true ok t) refl
 
-module _ (t : List ℕ) (p : ℕ) (f : Fact) (b : Binding) where
-  other-symbol : (getD t (p + 1) 0 ≡ f .symbol .0 → ⊥) → matchHead (headAt t p) f b ≡ none
-  unfolding matchHead headAt
+module _ (t : List ℕ) (p : ℕ) (symbols : List ℕ) (args : List ℤ) (i : ℕ) (b : Binding) where
+  other-symbol : (getD t (p + 1) 0 ≡ getD symbols i 0 → ⊥) → matchHead (headAt t p) (rowFact symbols args i) b ≡ none
+  unfolding matchHead headAt rowFact
   other-symbol d = rw (ne-eqb _ _ d)
 
-  same-symbol : getD t (p + 1) 0 ≡ f .symbol .0
-      → matchHead (headAt t p) f b ≡ andSlot (slotAt t (p + 17)) (f .a3) (andSlot (slotAt t (p + 12)) (f .a2) (andSlot (slotAt t (p + 7)) (f .a1) (matchSlot (slotAt t (p + 2)) (f .a0) b)))
-  unfolding matchHead headAt matchSlots andSlot
+  same-symbol : getD t (p + 1) 0 ≡ getD symbols i 0
+      → matchHead (headAt t p) (rowFact symbols args i) b ≡ andSlot (slotAt t (p + 17)) (getD args (4 * i + 3) (pos 0)) (andSlot (slotAt t (p + 12)) (getD args (4 * i + 2) (pos 0)) (andSlot (slotAt t (p + 7)) (getD args (4 * i + 1) (pos 0)) (matchSlot (slotAt t (p + 2)) (getD args (4 * i) (pos 0)) b)))
+  unfolding matchHead headAt matchSlots andSlot rowFact
   same-symbol e = rw (eq-eqb _ _ e)
 
-  pub head-other : (getD t (p + 1) 0 ≡ f .symbol .0 → ⊥) → (z : List ℤ) (y : List Bool) → boundAs false z y ≡ matchHead (headAt t p) f b
+  pub head-other : (getD t (p + 1) 0 ≡ getD symbols i 0 → ⊥) → (z : List ℤ) (y : List Bool) → boundAs false z y ≡ matchHead (headAt t p) (rowFact symbols args i) b
   unfolding boundAs
   head-other d z y = sym (other-symbol d)
 
-  module _ (e : getD t (p + 1) 0 ≡ f .symbol .0) (k0 : Bool) (z0 : List ℤ) (y0 : List Bool) (a0 : ℤ) (m0 : boundAs k0 z0 y0 ≡ matchSlot (slotAt t (p + 2)) a0 b) (e0 : a0 ≡ f .a0) where
-    after-0 : not k0 ≡ false → matchSlot (slotAt t (p + 2)) (f .a0) b ≡ some (bindingOf z0 y0)
+  module _ (e : getD t (p + 1) 0 ≡ getD symbols i 0) (k0 : Bool) (z0 : List ℤ) (y0 : List Bool) (a0 : ℤ) (m0 : boundAs k0 z0 y0 ≡ matchSlot (slotAt t (p + 2)) a0 b) (e0 : a0 ≡ getD args (4 * i) (pos 0)) where
+    after-0 : not k0 ≡ false → matchSlot (slotAt t (p + 2)) (getD args (4 * i) (pos 0)) b ≡ some (bindingOf z0 y0)
     after-0 t0 = rw (← e0) (matched k0 z0 y0 m0 t0)
 
-    pub head-miss-0 : not k0 ≡ true → (z : List ℤ) (y : List Bool) → boundAs false z y ≡ matchHead (headAt t p) f b
+    pub head-miss-0 : not k0 ≡ true → (z : List ℤ) (y : List Bool) → boundAs false z y ≡ matchHead (headAt t p) (rowFact symbols args i) b
     unfolding boundAs andSlot
     head-miss-0 t0 z y = rw (same-symbol e, ← e0, missed k0 z0 y0 m0 t0)
 
-    module _ (t0 : not k0 ≡ false) (k1 : Bool) (z1 : List ℤ) (y1 : List Bool) (a1 : ℤ) (m1 : boundAs k1 z1 y1 ≡ matchSlot (slotAt t (p + 7)) a1 (bindingOf z0 y0)) (e1 : a1 ≡ f .a1) where
-      pub head-miss-1 : not k1 ≡ true → (z : List ℤ) (y : List Bool) → boundAs false z y ≡ matchHead (headAt t p) f b
+    module _ (t0 : not k0 ≡ false) (k1 : Bool) (z1 : List ℤ) (y1 : List Bool) (a1 : ℤ) (m1 : boundAs k1 z1 y1 ≡ matchSlot (slotAt t (p + 7)) a1 (bindingOf z0 y0)) (e1 : a1 ≡ getD args (4 * i + 1) (pos 0)) where
+      pub head-miss-1 : not k1 ≡ true → (z : List ℤ) (y : List Bool) → boundAs false z y ≡ matchHead (headAt t p) (rowFact symbols args i) b
       unfolding boundAs andSlot
       head-miss-1 n z y = rw (same-symbol e, after-0 t0, ← e1, missed k1 z1 y1 m1 n)
 
-      module _ (t1 : not k1 ≡ false) (k2 : Bool) (z2 : List ℤ) (y2 : List Bool) (a2 : ℤ) (m2 : boundAs k2 z2 y2 ≡ matchSlot (slotAt t (p + 12)) a2 (bindingOf z1 y1)) (e2 : a2 ≡ f .a2) where
-        pub head-miss-2 : not k2 ≡ true → (z : List ℤ) (y : List Bool) → boundAs false z y ≡ matchHead (headAt t p) f b
+      module _ (t1 : not k1 ≡ false) (k2 : Bool) (z2 : List ℤ) (y2 : List Bool) (a2 : ℤ) (m2 : boundAs k2 z2 y2 ≡ matchSlot (slotAt t (p + 12)) a2 (bindingOf z1 y1)) (e2 : a2 ≡ getD args (4 * i + 2) (pos 0)) where
+        pub head-miss-2 : not k2 ≡ true → (z : List ℤ) (y : List Bool) → boundAs false z y ≡ matchHead (headAt t p) (rowFact symbols args i) b
         unfolding boundAs andSlot
         head-miss-2 n z y = rw (same-symbol e, after-0 t0, ← e1, matched k1 z1 y1 m1 t1, ← e2, missed k2 z2 y2 m2 n)
 
-        pub head-last : not k2 ≡ false → {a3 : ℤ} {m : Option Binding} → m ≡ matchSlot (slotAt t (p + 17)) a3 (bindingOf z2 y2) → a3 ≡ f .a3 → m ≡ matchHead (headAt t p) f b
+        pub head-last : not k2 ≡ false → {a3 : ℤ} {m : Option Binding} → m ≡ matchSlot (slotAt t (p + 17)) a3 (bindingOf z2 y2) → a3 ≡ getD args (4 * i + 3) (pos 0) → m ≡ matchHead (headAt t p) (rowFact symbols args i) b
         unfolding andSlot
         head-last t2 m3 e3 = rw (same-symbol e, after-0 t0, ← e1, matched k1 z1 y1 m1 t1, ← e2, matched k2 z2 y2 m2 t2, ← e3) m3

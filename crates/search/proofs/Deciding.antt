@@ -1,6 +1,7 @@
 -- What decoding and evaluating come to, case by case: the definition's clauses, in the form in which the code's tests give them.
 use mathlib.Core.Path.{_≡_, refl, sym, ap, _∙_}
-use mathlib.Core.Bool.{Bool, true, false}
+use mathlib.Core.Bool.{Bool, true, false, cond}
+use lib.Dec.{eqb}
 use mathlib.Core.List.{List, [], _∷_}
 use Prim.Native.Nat.{ℕ, zero, suc, _+_, _*_, _-_, _%_, _<_, _≤_}
 use native.Mathlib.Nat.{mod-eq-of-lt}
@@ -21,7 +22,7 @@ use Rattle.model.specs.declared.Slot.{Slot}
 use Rattle.model.specs.declared.Slot.the-variants.{Unused, Constant, Variable, Bad}
 use Rattle.model.specs.declared.Binding.{Binding}
 use Rattle.model.specs.declared.Expression.{Expression}
-use Rattle.model.specs.Slots.{slotAt, expressionAt}
+use Rattle.model.specs.Slots.{slotBy, slotAt, expressionAt}
 use Rattle.model.specs.Guards.{variableValue, slotValue, expressionValue, comparisonValue, guardValue}
 use Rattle.model.specs.Table.{guardAt, guardsFrom}
 use Rattle.search.specs.Views.{bindingOf, settledOf}
@@ -58,27 +59,38 @@ module _ (b : Binding) {s : Slot} where
   unfolding slotValue
   value-bad e = rw e
 
-module _ (b : Binding) {s : Slot} where
-  pub settled-unused : s ≡ Unused → Undefined ≡ settledOf b s
-  unfolding settledOf
-  settled-unused e = rw e
+-- the value that settles a slot, by its tag and its value
+module _ (b : Binding) (t : List ℕ) (p : ℕ) {value : ℕ} (ve : value ≡ u32At t (p + 1)) where
+  pub settled-variable : getD t p 0 ≡ 2 → value < 16 → {r : Value} → r ≡ variableValue b value → r ≡ settledOf b (slotAt t p)
+  unfolding settledOf slotAt slotBy
+  settled-variable e l q = rw (e, ← ve, lt-ltb value 16 l) q
 
-  pub settled-constant : {z : ℤ} → s ≡ Constant z → Number z ≡ settledOf b s
-  unfolding settledOf
-  settled-constant e = rw e
+  pub settled-above : getD t p 0 ≡ 2 → 16 ≤ value → Undefined ≡ settledOf b (slotAt t p)
+  unfolding settledOf slotAt slotBy
+  settled-above e l = rw (e, ← ve, le-ltb value 16 l)
 
-  pub settled-variable : {v : ℕ} → s ≡ Variable v → {r : Value} → r ≡ variableValue b v → r ≡ settledOf b s
-  unfolding settledOf
-  settled-variable e q = rw e q
+  pub settled-constant : getD t p 0 ≡ 1 → {z : ℤ} → z ≡ signedOf value → Number z ≡ settledOf b (slotAt t p)
+  unfolding settledOf slotAt slotBy
+  settled-constant e z = rw (e, ← ve, ← z)
 
-  pub settled-bad : s ≡ Bad → Undefined ≡ settledOf b s
-  unfolding settledOf
-  settled-bad e = rw e
+  pub settled-none : (getD t p 0 ≡ 2 → ⊥) → (getD t p 0 ≡ 1 → ⊥) → Undefined ≡ settledOf b (slotAt t p)
+  unfolding settledOf slotAt slotBy
+  settled-none u v = rw (ne-eqb _ 1 v, ne-eqb _ 2 u) (go (eqb (getD t p 0) 0) (eqb (u32At t (p + 1)) 0))
+    where
+      unused : (y : Bool) → Undefined ≡ settledOf b (cond y Unused Bad)
+      unused true = refl
+      unused false = refl
 
-pub value-is : (b : Binding) (t : List ℕ) (p : ℕ) {l r : Slot} {x y o : Value} → o ≡ evaluate (getD t p 0) x y → x ≡ slotValue b l → y ≡ slotValue b r → l ≡ slotAt t (p + 1) → r ≡ slotAt t (p + 6)
-    → o ≡ expressionValue b (expressionAt t p)
-unfolding expressionValue expressionAt
-value-is b t p o x y l r = rw (← l, ← r, ← x, ← y) o
+      go : (x y : Bool) → Undefined ≡ settledOf b (cond x (cond y Unused Bad) Bad)
+      go true y = unused y
+      go false y = refl
+
+pub expression-value-is : (b : Binding) (e : Expression) {x y r : Value} → r ≡ evaluate (e .operation) x y → x ≡ slotValue b (e .left) → y ≡ slotValue b (e .right) → r ≡ expressionValue b e
+unfolding expressionValue
+expression-value-is b e q x y = rw (← x, ← y) q
+
+pub value-is : (b : Binding) (t : List ℕ) (p : ℕ) {e : Expression} {v : Value} → v ≡ expressionValue b e → e ≡ expressionAt t p → v ≡ expressionValue b (expressionAt t p)
+value-is b t p v e = v ∙ ap (expressionValue b) e
 
 pub comparison-is : (b : Binding) (t : List ℕ) (p : ℕ) {x y : Value} {o : Truth}
     → o ≡ compare (getD t (p + 1) 0) x y → x ≡ expressionValue b (expressionAt t (p + 2)) → y ≡ expressionValue b (expressionAt t (p + 13))

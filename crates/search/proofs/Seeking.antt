@@ -1,7 +1,7 @@
 -- Laws of the search on plain values: a row, a complete match, and one turn of the loop over the rows. What is tried from row i on
 -- equals the whole, so that the first answer that is not "nothing" is the definition's.
 use mathlib.Core.Path.{_≡_, refl, sym, ap, subst, _∙_}
-use mathlib.Core.Bool.{Bool, true, false, not, _&&_}
+use mathlib.Core.Bool.{Bool, true, false, cond, not, _&&_}
 use mathlib.Core.Option.{Option, none, some}
 use mathlib.Core.List.{List, [], _∷_, _++_, map}
 use Prim.Native.Nat.{ℕ, zero, suc, _+_, _*_, _-_, _<_, _≤_}
@@ -24,7 +24,7 @@ use Rattle.model.specs.declared.RuleShape.{RuleShape}
 use Rattle.model.specs.Guards.{guardValue, unbound}
 use Rattle.model.specs.Matching.{matchHead}
 use Rattle.model.specs.Table.{Head, Rule, heads, headAt, headsFrom, headsStart, guardsFrom, guardsStart, ruleOf}
-use Rattle.model.specs.Search.{Fired, Found, nothing, undefinedGuard, applies, isAmong, mayStand, firedOf, inHistory, unlessKnown, judged, orElse, firstOf, andThen, complete, candidate, search, storedFact, noHead, fromActive, firstInstance}
+use Rattle.model.specs.Search.{Fired, Found, nothing, undefinedGuard, applies, isAmong, mayStand, firedOf, inHistory, unlessKnown, judged, orElse, firstOf, andThen, complete, candidate, search, storedFact, factIf, noHead, fromActive, firstInstance}
 use Rattle.model.proofs.Decoded.{heads-none, heads-first, heads-at, rule-guards, rule-heads}
 use Rattle.search.specs.declared.Probe.{Probe}
 use Rattle.search.specs.declared.Quest.{Quest}
@@ -33,14 +33,9 @@ use Rattle.search.specs.declared.Lookup.the-variants.{Here, Gone}
 use Rattle.search.specs.declared.Outcome.{Outcome}
 use Rattle.search.specs.declared.Outcome.the-variants.{Applies, Nothing, UndefinedGuard}
 use Rattle.search.proofs.Probed.{no-pass}
-use Rattle.search.specs.Views.{factId, idsOf, bindingOf, boundAs, Probing, passesOf, rowFact, rowAt, rowsFrom, firedAt, pastOf, candidateOf, foundAs, lookupOf, soughtOf, Held, Ready, Sought, firstOfQuest, Posed, Answered}
+use Rattle.search.specs.Views.{factId, idsOf, bindingOf, boundAs, Probing, passesOf, rowFact, rowAt, rowOf, rowsFrom, firedAt, pastOf, candidateOf, foundAs, lookupOf, soughtOf, Held, Ready, Sought, firstOfQuest, Posed, Answered}
 
 -- ---- a row
-
-pub row-is : (symbols : List ℕ) (args : List ℤ) (i : ℕ) {w x y z : ℤ} → w ≡ getD args (4 * i) (pos 0) → x ≡ getD args (4 * i + 1) (pos 0) → y ≡ getD args (4 * i + 2) (pos 0) → z ≡ getD args (4 * i + 3) (pos 0)
-    → _≡_ {A = Fact} (record { symbol = record { 0 = getD symbols i 0 }; a0 = w; a1 = x; a2 = y; a3 = z }) (rowFact symbols args i)
-unfolding rowFact
-row-is symbols args i w x y z = rw (w, x, y, z)
 
 module _ (active : FactId) (h : Head) (chosen : List FactId) (b : Binding) (symbols ids : List ℕ) (args : List ℤ) (i : ℕ) where
   pub row-active : getD ids i 0 ≡ active .0 → (z : List ℤ) (y : List Bool) → boundAs false z y ≡ candidateOf active h chosen b (rowAt symbols ids args i)
@@ -52,9 +47,9 @@ module _ (active : FactId) (h : Head) (chosen : List FactId) (b : Binding) (symb
     unfolding boundAs candidateOf mayStand rowAt
     row-chosen t z y = rw (ne-eqb _ _ d, ← a, t, candidateOf)
 
-    pub row-matches : among ≡ false → {f : Fact} {m : Option Binding} → m ≡ matchHead h f b → f ≡ rowFact symbols args i → m ≡ candidateOf active h chosen b (rowAt symbols ids args i)
+    pub row-matches : among ≡ false → {m : Option Binding} → m ≡ matchHead h (rowFact symbols args i) b → m ≡ candidateOf active h chosen b (rowAt symbols ids args i)
     unfolding candidateOf mayStand rowAt
-    row-matches t m f = rw (ne-eqb _ _ d, ← a, t, ← f, candidateOf) m
+    row-matches t m = rw (ne-eqb _ _ d, ← a, t, candidateOf) m
 
 -- ---- a complete match
 
@@ -348,40 +343,71 @@ module _ {t : List ℕ} {q : Quest} {past : List (List ℕ)} {chosen₀ : List �
 -- ---- the active fact
 
 -- the rows from i on, looked through
-unfoldable pub lookedFrom : List ℕ → List ℕ → List ℤ → FactId → ℕ → ℕ → Option Fact
-lookedFrom symbols ids args id n i = storedFact id (rowsFrom symbols ids args i (n - i))
+unfoldable pub lookedFrom : List ℕ → FactId → ℕ → ℕ → Option ℕ
+lookedFrom ids id n i = rowOf id ids i (n - i)
 
-module _ (symbols ids : List ℕ) (args : List ℤ) (id : FactId) (n i : ℕ) where
-  pub look-start : lookedFrom symbols ids args id n 0 ≡ storedFact id (rowsFrom symbols ids args 0 n)
+module _ (ids : List ℕ) (id : FactId) (n i : ℕ) where
+  pub look-start : lookedFrom ids id n 0 ≡ rowOf id ids 0 n
   unfolding lookedFrom
   look-start = let e : n - 0 ≡ n = omega arith in rw e refl
 
-  pub look-hit : i < n → getD ids i 0 ≡ id .0 → {f : Fact} {whole : Option Fact} → f ≡ rowFact symbols args i → lookedFrom symbols ids args id n i ≡ whole → lookupOf (Here f) ≡ whole
-  unfolding lookedFrom rowsFrom storedFact rowAt lookupOf
-  look-hit l h f w = let e : n - i ≡ suc (n - (i + 1)) = omega arith in ap some f ∙ sym (rw (e, eq-eqb _ _ h) refl) ∙ w
+  pub look-hit : i < n → getD ids i 0 ≡ id .0 → {whole : Option ℕ} → lookedFrom ids id n i ≡ whole → lookupOf (Here i) ≡ whole
+  unfolding lookedFrom rowOf lookupOf
+  look-hit l h w = let e : n - i ≡ suc (n - (i + 1)) = omega arith in sym (rw (e, eq-eqb _ _ h) refl) ∙ w
 
-  pub look-miss : i < n → (getD ids i 0 ≡ id .0 → ⊥) → {whole : Option Fact} → lookedFrom symbols ids args id n i ≡ whole → lookedFrom symbols ids args id n (i + 1) ≡ whole
-  unfolding lookedFrom rowsFrom storedFact rowAt
+  pub look-miss : i < n → (getD ids i 0 ≡ id .0 → ⊥) → {whole : Option ℕ} → lookedFrom ids id n i ≡ whole → lookedFrom ids id n (i + 1) ≡ whole
+  unfolding lookedFrom rowOf
   look-miss l h w = let e : n - i ≡ suc (n - (i + 1)) = omega arith in sym (rw (e, ne-eqb _ _ h, add-one i) refl) ∙ w
 
-  pub look-none : {whole : Option Fact} → lookedFrom symbols ids args id n i ≡ whole → n ≤ i → lookupOf Gone ≡ whole
-  unfolding lookedFrom rowsFrom storedFact lookupOf
+  pub look-none : {whole : Option ℕ} → lookedFrom ids id n i ≡ whole → n ≤ i → lookupOf Gone ≡ whole
+  unfolding lookedFrom rowOf lookupOf
   look-none w l = let e : n - i ≡ 0 = omega arith in sym (rw e refl) ∙ w
 
+-- the fact of the row that is found is the stored one
+abbrev factOf : List ℕ → List ℤ → Option ℕ → Option Fact
+factOf symbols args none = none
+factOf symbols args (some i) = some (rowFact symbols args i)
+
+stored-row : (symbols ids : List ℕ) (args : List ℤ) (id : FactId) (i n : ℕ) → storedFact id (rowsFrom symbols ids args i n) ≡ factOf symbols args (rowOf id ids i n)
+unfolding storedFact rowsFrom rowOf rowAt
+stored-row symbols ids args id i zero = refl
+stored-row symbols ids args id i (suc n) = go (eqb (getD ids i 0) (id .0)) (rowOf id ids (suc i) n) (stored-row symbols ids args id (suc i) n)
+  where
+    go : (x : Bool) (o : Option ℕ) {later : Option Fact} → later ≡ factOf symbols args o → factIf x (rowFact symbols args i) later ≡ factOf symbols args (cond x (some i) o)
+    go true o e = refl
+    go false o e = e
+
+-- and it is one of the rows
+row-within : (ids : List ℕ) (id : FactId) (i n : ℕ) {r : ℕ} → rowOf id ids i n ≡ some r → r < i + n
+unfolding rowOf
+row-within ids id i zero e = absurd (let z : _≡_ {A = ℕ} 0 1 = cc in omega arith)
+row-within ids id i (suc n) {r} e = go (eqb (getD ids i 0) (id .0)) e (λ q. row-within ids id (suc i) n q)
+  where
+    go : (x : Bool) → cond x (some i) (rowOf id ids (suc i) n) ≡ some r → (rowOf id ids (suc i) n ≡ some r → r < suc i + n) → r < i + suc n
+    go true q k = let s : i ≡ r = cc in omega arith
+    go false q k = omega (arith, k q)
+
+pub row-in : (ids : List ℕ) (id : FactId) (n : ℕ) (found : Lookup) → lookupOf found ≡ rowOf id ids 0 n → {r : ℕ} → found ≡ Here r → n ≤ 128 → r < 128
+unfolding lookupOf
+row-in ids id n found fe {r} e l = let q : rowOf id ids 0 n ≡ some r = sym fe ∙ rw e refl in omega (arith, row-within ids id 0 n q)
+
 module _ (t : List ℕ) (q : Quest) (past : List (List ℕ)) (symbols ids : List ℕ) (args : List ℤ) (chosen₀ : List ℕ) (r : Posed t q past chosen₀)
-    {found : Lookup} (fe : lookupOf found ≡ storedFact (q .active) (rowsFrom symbols ids args 0 (q .stored))) where
+    (found : Lookup) (fe : lookupOf found ≡ rowOf (q .active) ids 0 (q .stored)) where
+  stored-is : storedFact (q .active) (rowsFrom symbols ids args 0 (q .stored)) ≡ factOf symbols args (lookupOf found)
+  stored-is = stored-row symbols ids args (q .active) 0 (q .stored) ∙ ap (factOf symbols args) (sym fe)
+
   pub not-stored : found ≡ Gone → (b : Binding) → Answered (firstOfQuest t q past symbols ids args) Nothing (q .shape .heads) chosen₀ chosen₀ b
   unfolding firstOfQuest firstInstance lookupOf foundAs
-  not-stored e b = record { answer = sym (rw (← fe, e) refl); long = refl }
+  not-stored e b = record { answer = sym (rw (stored-is, e) refl); long = refl }
 
-  module _ {f : Fact} (e : found ≡ Here f) (ok : Bool) (v : List ℤ) (y : List Bool)
-      (m : boundAs ok v y ≡ matchHead (headAt t (headsStart (q .shape) + 22 * q .place .head)) f unbound) where
+  module _ {row : ℕ} (e : found ≡ Here row) (ok : Bool) (v : List ℤ) (y : List Bool)
+      (m : boundAs ok v y ≡ matchHead (headAt t (headsStart (q .shape) + 22 * q .place .head)) (rowFact symbols args row) unbound) where
     begins : firstOfQuest t q past symbols ids args ≡ fromActive (rowsFrom symbols ids args 0 (q .stored)) (pastOf (q .noted) past) (q .place) (ruleOf t (q .shape)) (q .active) (boundAs ok v y)
     unfolding firstOfQuest firstInstance lookupOf
     begins =
         let own : getD (heads (ruleOf t (q .shape))) (q .place .head) noHead ≡ headAt t (headsStart (q .shape) + 22 * q .place .head)
         = ap (λ (l : List Head). getD l (q .place .head) noHead) (rule-heads t (q .shape) (r .keptFew)) ∙ heads-at t (headsStart (q .shape)) (q .shape .heads) (q .place .head) noHead (r .headIn) in
-        rw (← fe, e, own, ← m) refl
+        rw (stored-is, e, own, ← m) refl
 
     pub no-place : ok ≡ false → (b : Binding) → Answered (firstOfQuest t q past symbols ids args) Nothing (q .shape .heads) chosen₀ chosen₀ b
     unfolding boundAs foundAs

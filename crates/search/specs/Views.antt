@@ -115,9 +115,14 @@ foundAs Applies chosen b = applies chosen b
 foundAs Nothing chosen b = nothing
 foundAs UndefinedGuard chosen b = undefinedGuard
 
-unfoldable pub lookupOf : Lookup → Option Fact
-lookupOf (Here f) = some f
+unfoldable pub lookupOf : Lookup → Option ℕ
+lookupOf (Here i) = some i
 lookupOf Gone = none
+
+-- the first of n rows from row i on that has an identifier
+unfoldable pub rowOf : FactId → List ℕ → ℕ → ℕ → Option ℕ
+rowOf id ids i zero = none
+rowOf id ids i (suc n) = cond (eqb (getD ids i 0) (id .0)) (some i) (rowOf id ids (suc i) n)
 
 -- the search with the heads from p on that are left, k facts being chosen
 unfoldable pub soughtOf : List ℕ → Quest → List (List ℕ) → List ℕ → List ℕ → List ℤ → ℕ → ℕ → List FactId → Binding → Found

@@ -1,4 +1,5 @@
 // Expressions and guards under a binding of the variables, which is lent as its two arrays.
+use model::Expression;
 use model::Slot;
 use numbers::Truth;
 use numbers::Value;
@@ -35,14 +36,24 @@ pub fn slot_value(s: Slot, values: &[i32; 16], bound: &[bool; 16]) -> Value
     }
 }
 
+pub fn expression_value(e: Expression, values: &[i32; 16], bound: &[bool; 16]) -> Value
+    ensures { λ r. ⌜ r ≡ expressionValue (bindingOf (now (values .entry)) (now (bound .entry))) e ⌝ }
+{
+    let left = e.left;
+    let right = e.right;
+    numbers::evaluate(
+        e.operation,
+        slot_value(left, values, bound),
+        slot_value(right, values, bound),
+    )
+}
+
 // The value of the expression at p.
 pub fn value_at(t: &[u8], p: usize, values: &[i32; 16], bound: &[bool; 16]) -> Value
     requires { ⌜ p + 11 ≤ length (now t) ⌝ }
     ensures { λ r. ⌜ r ≡ expressionValue (bindingOf (now (values .entry)) (now (bound .entry))) (expressionAt (now (t .entry)) p) ⌝ }
 {
-    let left = slot_value(slots::slot_at(t, p + 1), values, bound);
-    let right = slot_value(slots::slot_at(t, p + 6), values, bound);
-    numbers::evaluate(t[p], left, right)
+    expression_value(slots::expression_at(t, p), values, bound)
 }
 
 // The comparison whose record stands at p.

@@ -1,6 +1,5 @@
 // The partner search: the first applicable instance of a rule at an occurrence. It reads the store through lent columns of
 // plain numbers, and the table where it lies; nothing that holds an array goes by value on the way of a try.
-use model::Fact;
 use model::FactId;
 use model::HeadPlace;
 use model::RuleShape;
@@ -29,9 +28,9 @@ pub struct Quest {
     pub noted: usize,
 }
 
-// The active fact, or none where another firing removed it.
+// The active fact's row, or none where another firing removed it.
 pub enum Lookup {
-    Here(Fact),
+    Here(usize),
     Gone,
 }
 

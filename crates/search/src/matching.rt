@@ -1,15 +1,12 @@
 // Matching a head with a fact. The binding is two arrays that the caller lends; after a match that fails they mean nothing.
-use model::Fact;
-use model::Slot;
-use records::slots;
 ghost use mathlib.Core.Path.{_≡_};
-ghost use Prim.Native.Nat.{_+_, _≤_};
+ghost use Prim.Native.Nat.{_+_, _≤_, _<_};
 ghost use lib.ListN.{length};
 ghost use Rattle.model.specs.Matching.{matchVariable, matchSlot, matchHead};
 ghost use Rattle.model.specs.Slots.{slotAt};
 ghost use Rattle.model.specs.Table.{headAt};
 ghost use Rattle.numbers.specs.Numbers.{equal};
-ghost use Rattle.search.specs.Views.{bindingOf, boundAs};
+ghost use Rattle.search.specs.Views.{bindingOf, boundAs, rowFact};
 
 pub fn same(a: i32, b: i32) -> bool
     ensures { λ r. ⌜ r ≡ equal a b ⌝ }
@@ -33,48 +30,60 @@ pub fn match_variable(v: u8, a: i32, values: &mut [i32; 16], bound: &mut [bool; 
     true
 }
 
-pub fn match_slot(s: Slot, a: i32, values: &mut [i32; 16], bound: &mut [bool; 16]) -> bool
-    ensures { λ r. ⌜ boundAs r (now (values .exit)) (now (bound .exit)) ≡ matchSlot s a (bindingOf (now (values .entry)) (now (bound .entry))) ⌝ }
-{
-    match s {
-        Slot::Unused => true,
-        Slot::Constant(c) => same(c, a),
-        Slot::Variable(v) => match_variable(v, a, values, bound),
-        Slot::Bad => false,
-    }
-}
-
 // The slot at p with an argument.
-fn match_at(t: &[u8], p: usize, a: i32, values: &mut [i32; 16], bound: &mut [bool; 16]) -> bool
+fn match_slot(t: &[u8], p: usize, a: i32, values: &mut [i32; 16], bound: &mut [bool; 16]) -> bool
     requires { ⌜ p + 5 ≤ length (now t) ⌝ }
     ensures { λ r. ⌜ boundAs r (now (values .exit)) (now (bound .exit)) ≡ matchSlot (slotAt (now (t .entry)) p) a (bindingOf (now (values .entry)) (now (bound .entry))) ⌝ }
 {
-    match_slot(slots::slot_at(t, p), a, values, bound)
+    let tag = t[p];
+    let value = wire::u32_within(t, p + 1);
+    if tag == 2 {
+        if value < 16 {
+            return match_variable(value as u8, a, values, bound);
+        }
+        return false;
+    }
+    if tag == 1 {
+        return same(wire::signed(value), a);
+    }
+    if tag == 0 {
+        if value == 0 {
+            return true;
+        }
+        return false;
+    }
+    false
 }
 
-// The head at p with a fact.
+// The head at p with the fact of row i.
 pub fn match_head(
     t: &[u8],
     p: usize,
-    f: Fact,
+    symbols: &[u8; 128],
+    args: &[i32; 512],
+    i: usize,
     values: &mut [i32; 16],
     bound: &mut [bool; 16],
 ) -> bool
-    requires { ⌜ p + 22 ≤ length (now t) ⌝ }
-    ensures { λ r. ⌜ boundAs r (now (values .exit)) (now (bound .exit)) ≡ matchHead (headAt (now (t .entry)) p) f (bindingOf (now (values .entry)) (now (bound .entry))) ⌝ }
+    requires { ⌜ (p + 22 ≤ length (now t)) × (i < 128) ⌝ }
+    ensures { λ r. ⌜ boundAs r (now (values .exit)) (now (bound .exit)) ≡ matchHead (headAt (now (t .entry)) p) (rowFact (now (symbols .entry)) (now (args .entry)) i) (bindingOf (now (values .entry)) (now (bound .entry))) ⌝ }
 {
-    let symbol = f.symbol;
-    if t[p + 1] != symbol.0 {
+    if t[p + 1] != symbols[i] {
         return false;
     }
-    if !match_at(t, p + 2, f.a0, values, bound) {
+    let at = 4 * i;
+    let a0 = args[at];
+    let a1 = args[at + 1];
+    let a2 = args[at + 2];
+    let a3 = args[at + 3];
+    if !match_slot(t, p + 2, a0, values, bound) {
         return false;
     }
-    if !match_at(t, p + 7, f.a1, values, bound) {
+    if !match_slot(t, p + 7, a1, values, bound) {
         return false;
     }
-    if !match_at(t, p + 12, f.a2, values, bound) {
+    if !match_slot(t, p + 12, a2, values, bound) {
         return false;
     }
-    match_at(t, p + 17, f.a3, values, bound)
+    match_slot(t, p + 17, a3, values, bound)
 }

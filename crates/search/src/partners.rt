@@ -3,33 +3,16 @@
 use crate::Lookup;
 use crate::Outcome;
 use crate::Quest;
-use model::Fact;
 use model::FactId;
 use model::HistoryEntry;
-use model::Symbol;
 use numbers::Truth;
 ghost use mathlib.Core.Path.{_≡_};
 ghost use Prim.Native.Nat.{_+_, _≤_, _<_};
 ghost use lib.ListN.{length};
 ghost use mathlib.Core.List.{[]};
-ghost use Rattle.model.specs.Search.{complete, storedFact};
+ghost use Rattle.model.specs.Search.{complete};
 ghost use Rattle.model.specs.Table.{headAt, ruleOf};
-ghost use Rattle.search.specs.Views.{idsOf, Held, bindingOf, boundAs, rowFact, rowAt, rowsFrom, pastOf, candidateOf, foundAs, lookupOf, soughtOf, Ready, Sought, firstOfQuest, Posed, Answered};
-
-// The fact of a row of the store's columns.
-pub fn fact_at(symbols: &[u8; 128], args: &[i32; 512], i: usize) -> Fact
-    requires { ⌜ i < 128 ⌝ }
-    ensures { λ r. ⌜ r ≡ rowFact (now (symbols .entry)) (now (args .entry)) i ⌝ }
-{
-    let at = 4 * i;
-    Fact {
-        symbol: Symbol(symbols[i]),
-        a0: args[at],
-        a1: args[at + 1],
-        a2: args[at + 2],
-        a3: args[at + 3],
-    }
-}
+ghost use Rattle.search.specs.Views.{idsOf, Held, bindingOf, boundAs, rowAt, rowOf, pastOf, candidateOf, foundAs, lookupOf, soughtOf, Ready, Sought, firstOfQuest, Posed, Answered};
 
 // A row as the partner for a head: neither the active fact nor one that is chosen, and it matches.
 pub fn candidate<'a>(
@@ -55,7 +38,7 @@ pub fn candidate<'a>(
     if crate::history::is_among(id, chosen, 0, k) {
         return false;
     }
-    crate::matching::match_head(t, p, fact_at(symbols, args, i), values, bound)
+    crate::matching::match_head(t, p, symbols, args, i, values, bound)
 }
 
 // A complete match: passed over if it is in the history, else its guard decides.
@@ -184,22 +167,16 @@ pub fn seek<'a>(
     Outcome::Nothing
 }
 
-// The stored fact of an identifier.
-pub fn stored_fact<'a>(
-    symbols: &'a [u8; 128],
-    ids: &'a [u32; 128],
-    args: &'a [i32; 512],
-    stored: usize,
-    id: FactId,
-) -> Lookup
+// The row of an identifier.
+pub fn row_of(ids: &[u32; 128], stored: usize, id: FactId) -> Lookup
     requires { ⌜ stored ≤ 128 ⌝ }
-    ensures { λ r. ⌜ lookupOf r ≡ storedFact id (rowsFrom (now (symbols .entry)) (now (ids .entry)) (now (args .entry)) 0 stored) ⌝ }
+    ensures { λ r. ⌜ lookupOf r ≡ rowOf id (now (ids .entry)) 0 stored ⌝ }
 {
     let wanted = id.0;
     let mut i: usize = 0;
     while i < stored {
         if ids[i] == wanted {
-            return Lookup::Here(fact_at(symbols, args, i));
+            return Lookup::Here(i);
         }
         i += 1;
     }
@@ -221,9 +198,9 @@ pub fn first_instance<'a>(
     requires { ⌜ Posed (now t) q (now past) (now chosen) ⌝ }
     ensures { λ r. ⌜ Answered (firstOfQuest (now (t .entry)) q (now (past .entry)) (now (symbols .entry)) (now (ids .entry)) (now (args .entry))) r (q .shape .heads) (now (chosen .entry)) (now (chosen .exit)) (bindingOf (now (values .exit)) (now (bound .exit))) ⌝ }
 {
-    let found = stored_fact(symbols, ids, args, q.stored, q.active);
+    let found = row_of(ids, q.stored, q.active);
     match found {
-        Lookup::Here(f) => {
+        Lookup::Here(row) => {
             let shape = q.shape;
             let place = q.place;
             let start = shape.start + 1;
@@ -231,7 +208,7 @@ pub fn first_instance<'a>(
             let at = start + 22 * (place.head as usize);
             *values = [0i32; 16];
             *bound = [false; 16];
-            if crate::matching::match_head(t, at, f, values, bound) {
+            if crate::matching::match_head(t, at, symbols, args, row, values, bound) {
                 return seek(
                     t,
                     start,

@@ -1,24 +1,30 @@
 // What settles most rows before anything is copied for a match.
 use crate::Probe;
-use model::Slot;
 use numbers::Value;
-use records::slots;
 ghost use mathlib.Core.Path.{_≡_};
 ghost use Prim.Native.Nat.{_+_, _≤_, _<_};
 ghost use lib.ListN.{length};
+ghost use Rattle.model.specs.Slots.{slotAt};
 ghost use Rattle.model.specs.Table.{headAt};
 ghost use Rattle.search.specs.Views.{bindingOf, settledOf, passesOf, Probing};
 
-// The value that an argument must have at a slot, if there is one.
-fn settled(s: Slot, values: &[i32; 16], bound: &[bool; 16]) -> Value
-    ensures { λ r. ⌜ r ≡ settledOf (bindingOf (now (values .entry)) (now (bound .entry))) s ⌝ }
+// The value that an argument must have at the slot at p, if there is one.
+fn settled(t: &[u8], p: usize, values: &[i32; 16], bound: &[bool; 16]) -> Value
+    requires { ⌜ p + 5 ≤ length (now t) ⌝ }
+    ensures { λ r. ⌜ r ≡ settledOf (bindingOf (now (values .entry)) (now (bound .entry))) (slotAt (now (t .entry)) p) ⌝ }
 {
-    match s {
-        Slot::Unused => Value::Undefined,
-        Slot::Constant(z) => Value::Number(z),
-        Slot::Variable(v) => crate::guards::variable_value(v, values, bound),
-        Slot::Bad => Value::Undefined,
+    let tag = t[p];
+    let value = wire::u32_within(t, p + 1);
+    if tag == 2 {
+        if value < 16 {
+            return crate::guards::variable_value(value as u8, values, bound);
+        }
+        return Value::Undefined;
     }
+    if tag == 1 {
+        return Value::Number(wire::signed(value));
+    }
+    Value::Undefined
 }
 
 // The probe for the head at p: its first slot that is settled.
@@ -31,7 +37,7 @@ pub fn probe(t: &[u8], p: usize, values: &[i32; 16], bound: &[bool; 16]) -> Prob
     while place < 4 {
         let here = place;
         place += 1;
-        match settled(slots::slot_at(t, p + 2 + 5 * here), values, bound) {
+        match settled(t, p + 2 + 5 * here, values, bound) {
             Value::Number(z) => {
                 return Probe {
                     symbol: symbol,

@@ -7,11 +7,11 @@ use Rattle.engine.proofs.bodies.work_out.Statement.{statement}
 use Rattle.engine.proofs.bodies.work_out.Tie as tie
 
 abbrev Inv-loop : tie.InvT-loop
-Inv-loop t p n values bound entries₀ at₀ i₀ entries at i =
-    Working (bindingOf values bound) t p n entries at i
+Inv-loop t p n values bound body₀ at₀ i₀ body at i =
+    Working (bindingOf values bound) t p n body at i
 
 abbrev μ-loop : tie.MeasureT-loop
-μ-loop t p n values bound entries₀ at₀ i₀ entries at i = n - i
+μ-loop t p n values bound body₀ at₀ i₀ body at i = n - i
 
 empty-requires : tie.Need-empty-requires Inv-loop μ-loop
 empty-requires c κs = search needs
@@ -28,11 +28,11 @@ behind-item-requires c κs = item-lies _ _ _ _ (c .before .loop .inv) (c .loop-t
 item-entry-requires : tie.Need-item-entry-requires Inv-loop μ-loop
 item-entry-requires c κs = item-reads _ _ _ _ (c .before .before .loop .inv) (c .before .loop-test .taken)
 
-mul-entries : tie.Need-mul-entries Inv-loop μ-loop
-mul-entries c = search needs
+mul-e : tie.Need-mul-e Inv-loop μ-loop
+mul-e c = search needs
 
-array-set-from-entries : tie.Need-array-set-from-entries Inv-loop μ-loop
-array-set-from-entries c = search needs
+element-set-from-e : tie.Need-element-set-from-e Inv-loop μ-loop
+element-set-from-e c = search needs
 
 loop-less : tie.Need-loop-less Inv-loop μ-loop
 loop-less c = search needs
@@ -57,8 +57,8 @@ work-out-spec =
     add-i
     behind-item-requires
     item-entry-requires
-    mul-entries
-    array-set-from-entries
+    mul-e
+    element-set-from-e
     loop-less
     loop-again
     returns

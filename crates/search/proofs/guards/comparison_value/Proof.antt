@@ -3,40 +3,28 @@ use Rattle.search.proofs.Deciding.{comparison-is}
 use borrow.Author.Needs.{needs}
 use Rattle.search.proofs.guards.comparison_value.Statement.{statement}
 use Rattle.search.proofs.guards.comparison_value.Tie as tie
-use Rattle.search.proofs.guards.comparison_value.Reads as reads
-use Rattle.search.proofs.guards.comparison_value.Lts as lts
-use Rattle.numbers.proofs.compare.Reads as compare-reads
-use Rattle.search.proofs.guards.value_at.Reads as value-at-reads
 
--- src/guards.rt:53:28
 add-value-at : tie.Need-add-value-at
 add-value-at c = search needs
 
--- src/guards.rt:53:9
 value-at-requires : tie.Need-value-at-requires
 value-at-requires c κs = search needs
 
--- src/guards.rt:54:29
 add-value-at-2 : tie.Need-add-value-at-2
 add-value-at-2 c = search needs
 
--- src/guards.rt:54:9
 value-at-requires-2 : tie.Need-value-at-requires-2
 value-at-requires-2 c κs = search needs
 
--- src/guards.rt:55:24
 add-compare : tie.Need-add-compare
 add-compare c = search needs
 
--- src/guards.rt:55:22
 shared-slice-read-compare : tie.Need-shared-slice-read-compare
 shared-slice-read-compare c = search needs
 
--- src/guards.rt:55:5
 compare-requires : tie.Need-compare-requires
 compare-requires c κs = search needs
 
--- src/guards.rt:49:1
 returns : tie.Need-returns
 returns c = search comparison-is
 

@@ -1,72 +1,92 @@
 -- `search::matching::match_head` meets its contract: the slots are matched in turn as long as each matches, which is the definition unrolled.
 use Rattle.search.proofs.Binds.{head-other, head-miss-0, head-miss-1, head-miss-2, head-last}
-use native.Mathlib.Omega.{arith}
 use borrow.Author.Needs.{needs}
 use Rattle.search.proofs.matching.match_head.Statement.{statement}
 use Rattle.search.proofs.matching.match_head.Tie as tie
-use Rattle.search.proofs.matching.match_head.Reads as reads
-use Rattle.search.proofs.matching.match_head.Lts as lts
-use Rattle.search.proofs.matching.match_at.Reads as match-at-reads
 
--- src/matching.rt:73:10
 add-if1 : tie.Need-add-if1
 add-if1 c = search needs
 
--- src/matching.rt:73:8
 shared-slice-read-if1 : tie.Need-shared-slice-read-if1
 shared-slice-read-if1 c = search needs
 
--- src/matching.rt:74:9
+element-copy-out-if1 : tie.Need-element-copy-out-if1
+element-copy-out-if1 c = search needs
+
 returns : tie.Need-returns
 returns c = search (head-other, needs)
 
--- src/matching.rt:76:21
-add-match-at : tie.Need-add-match-at
-add-match-at c = search needs
+mul-at : tie.Need-mul-at
+mul-at c = search needs
 
--- src/matching.rt:76:9
-match-at-requires : tie.Need-match-at-requires
-match-at-requires c κs = search needs
+mul-a0 : tie.Need-mul-a0
+mul-a0 c = search needs
 
--- src/matching.rt:77:9
+element-copy-out-a0 : tie.Need-element-copy-out-a0
+element-copy-out-a0 c = search needs
+
+add-a1 : tie.Need-add-a1
+add-a1 c = search needs
+
+mul-a1 : tie.Need-mul-a1
+mul-a1 c = search needs
+
+element-copy-out-a1 : tie.Need-element-copy-out-a1
+element-copy-out-a1 c = search needs
+
+add-a2 : tie.Need-add-a2
+add-a2 c = search needs
+
+mul-a2 : tie.Need-mul-a2
+mul-a2 c = search needs
+
+element-copy-out-a2 : tie.Need-element-copy-out-a2
+element-copy-out-a2 c = search needs
+
+add-a3 : tie.Need-add-a3
+add-a3 c = search needs
+
+mul-a3 : tie.Need-mul-a3
+mul-a3 c = search needs
+
+element-copy-out-a3 : tie.Need-element-copy-out-a3
+element-copy-out-a3 c = search needs
+
+add-match-slot : tie.Need-add-match-slot
+add-match-slot c = search needs
+
+match-slot-requires : tie.Need-match-slot-requires
+match-slot-requires c κs = search needs
+
 returns-2 : tie.Need-returns-2
 returns-2 c = search (head-miss-0, needs)
 
--- src/matching.rt:79:21
-add-match-at-2 : tie.Need-add-match-at-2
-add-match-at-2 c = search needs
+add-match-slot-2 : tie.Need-add-match-slot-2
+add-match-slot-2 c = search needs
 
--- src/matching.rt:79:9
-match-at-requires-2 : tie.Need-match-at-requires-2
-match-at-requires-2 c κs = search needs
+match-slot-requires-2 : tie.Need-match-slot-requires-2
+match-slot-requires-2 c κs = search needs
 
--- src/matching.rt:80:9
 returns-3 : tie.Need-returns-3
-returns-3 c = search (head-miss-1, needs)
+returns-3 c = head-miss-1 _ _ _ _ _ _ (c .before .before .before .before .before .before .before .before .before .before .before .before .if1 .left) _ _ _ _ (c .before .before .before .before .before .match-slot .ensures) (search needs) (c .before .before .before .before .if2 .left) _ _ _ _ (c .before .match-slot2 .ensures) (search needs) (c .if3 .taken) _ _
 
--- src/matching.rt:82:21
-add-match-at-3 : tie.Need-add-match-at-3
-add-match-at-3 c = search needs
+add-match-slot-3 : tie.Need-add-match-slot-3
+add-match-slot-3 c = search needs
 
--- src/matching.rt:82:9
-match-at-requires-3 : tie.Need-match-at-requires-3
-match-at-requires-3 c κs = search needs
+match-slot-requires-3 : tie.Need-match-slot-requires-3
+match-slot-requires-3 c κs = search needs
 
--- src/matching.rt:83:9
 returns-4 : tie.Need-returns-4
-returns-4 c = head-miss-2 _ _ _ _ (c .before .before .before .before .before .before .before .before .before .before .before .before .before .before .before .if1 .left) _ _ _ _ (c .before .before .before .before .before .before .before .before .before .before .before .match-at .ensures) (search needs) (c .before .before .before .before .before .before .before .before .before .before .if2 .left) _ _ _ _ (c .before .before .before .before .before .before .match-at2 .ensures) (search needs) (c .before .before .before .before .before .if3 .left) _ _ _ _ (c .before .match-at3 .ensures) (search needs) (c .if4 .taken) _ _
+returns-4 c = head-miss-2 _ _ _ _ _ _ (c .before .before .before .before .before .before .before .before .before .before .before .before .before .before .before .before .if1 .left) _ _ _ _ (c .before .before .before .before .before .before .before .before .before .match-slot .ensures) (search needs) (c .before .before .before .before .before .before .before .before .if2 .left) _ _ _ _ (c .before .before .before .before .before .match-slot2 .ensures) (search needs) (c .before .before .before .before .if3 .left) _ _ _ _ (c .before .match-slot3 .ensures) (search needs) (c .if4 .taken) _ _
 
--- src/matching.rt:85:17
-add-match-at-4 : tie.Need-add-match-at-4
-add-match-at-4 c = search (c .before .before .before .before .before .before .before .before .before .before .before .before .before .before .before .before .before .before .before .before .pre, c .before .before .before .before .before .before .before .before .before .before .before .before .before .before .before .before .before .before .before .before .good, needs)
+add-match-slot-4 : tie.Need-add-match-slot-4
+add-match-slot-4 c = search needs
 
--- src/matching.rt:85:5
-match-at-requires-4 : tie.Need-match-at-requires-4
-match-at-requires-4 c κs = omega (arith, c .before .before .before .before .before .before .before .before .before .before .before .before .before .before .before .before .before .before .before .before .before .before .before .pre)
+match-slot-requires-4 : tie.Need-match-slot-requires-4
+match-slot-requires-4 c κs = search needs
 
--- src/matching.rt:62:1
 returns-5 : tie.Need-returns-5
-returns-5 c = head-last _ _ _ _ (c .before .before .before .before .before .before .before .before .before .before .before .before .before .before .before .before .before .before .before .if1 .left) _ _ _ _ (c .before .before .before .before .before .before .before .before .before .before .before .before .before .before .before .match-at .ensures) (search needs) (c .before .before .before .before .before .before .before .before .before .before .before .before .before .before .if2 .left) _ _ _ _ (c .before .before .before .before .before .before .before .before .before .before .match-at2 .ensures) (search needs) (c .before .before .before .before .before .before .before .before .before .if3 .left) _ _ _ _ (c .before .before .before .before .before .match-at3 .ensures) (search needs) (c .before .before .before .before .if4 .left) (c .match-at4 .ensures) (search needs)
+returns-5 c = head-last _ _ _ _ _ _ (c .before .before .before .before .before .before .before .before .before .before .before .before .before .before .before .before .before .before .before .if1 .left) _ _ _ _ (c .before .before .before .before .before .before .before .before .before .before .before .before .match-slot .ensures) (search needs) (c .before .before .before .before .before .before .before .before .before .before .before .if2 .left) _ _ _ _ (c .before .before .before .before .before .before .before .before .match-slot2 .ensures) (search needs) (c .before .before .before .before .before .before .before .if3 .left) _ _ _ _ (c .before .before .before .before .match-slot3 .ensures) (search needs) (c .before .before .before .if4 .left) (c .match-slot4 .ensures) (search needs)
 
 pub match-head-spec : {M : Type 1} → statement M
 match-head-spec =
@@ -74,16 +94,29 @@ match-head-spec =
     (tie.spec
     add-if1
     shared-slice-read-if1
+    element-copy-out-if1
     returns
-    add-match-at
-    match-at-requires
+    mul-at
+    mul-a0
+    element-copy-out-a0
+    add-a1
+    mul-a1
+    element-copy-out-a1
+    add-a2
+    mul-a2
+    element-copy-out-a2
+    add-a3
+    mul-a3
+    element-copy-out-a3
+    add-match-slot
+    match-slot-requires
     returns-2
-    add-match-at-2
-    match-at-requires-2
+    add-match-slot-2
+    match-slot-requires-2
     returns-3
-    add-match-at-3
-    match-at-requires-3
+    add-match-slot-3
+    match-slot-requires-3
     returns-4
-    add-match-at-4
-    match-at-requires-4
+    add-match-slot-4
+    match-slot-requires-4
     returns-5)

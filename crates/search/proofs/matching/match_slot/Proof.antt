@@ -1,50 +1,62 @@
--- `search::matching::match_slot` meets its contract: each kind of slot matches as the definition's clause says.
-use Rattle.search.proofs.Binds.{slot-unused, slot-constant, slot-variable, slot-bad}
+-- `search::matching::match_slot` meets its contract: one return a case of the slot's tag and value.
+use Rattle.search.proofs.Binds.{slot-variable, slot-above, slot-constant, slot-unused, slot-spoilt, slot-none}
 use borrow.Author.Needs.{needs}
 use Rattle.search.proofs.matching.match_slot.Statement.{statement}
 use Rattle.search.proofs.matching.match_slot.Tie as tie
 
-enum-told : tie.Need-enum-told
-enum-told c = search needs
+shared-slice-read-tag : tie.Need-shared-slice-read-tag
+shared-slice-read-tag c = search needs
 
-enum-known-s : tie.Need-enum-known-s
-enum-known-s c = search needs
+add-u32-within : tie.Need-add-u32-within
+add-u32-within c = search needs
 
-same-requires : tie.Need-same-requires
-same-requires c κs = search needs
+u32-within-requires : tie.Need-u32-within-requires
+u32-within-requires c κs = search needs
 
-enum-known-s-2 : tie.Need-enum-known-s-2
-enum-known-s-2 c = search needs
+cast-match-variable : tie.Need-cast-match-variable
+cast-match-variable c = search needs
 
 match-variable-requires : tie.Need-match-variable-requires
 match-variable-requires c κs = search needs
 
-enum-told-2 : tie.Need-enum-told-2
-enum-told-2 c = search needs
-
 returns : tie.Need-returns
-returns c = search (slot-unused, needs)
+returns c = search (slot-variable, needs)
 
 returns-2 : tie.Need-returns-2
-returns-2 c = search (slot-constant, needs)
+returns-2 c = search (slot-above, needs)
+
+signed-requires : tie.Need-signed-requires
+signed-requires c κs = search needs
+
+same-requires : tie.Need-same-requires
+same-requires c κs = search needs
 
 returns-3 : tie.Need-returns-3
-returns-3 c = search (slot-variable, needs)
+returns-3 c = search (slot-constant, needs)
 
 returns-4 : tie.Need-returns-4
-returns-4 c = search (slot-bad, needs)
+returns-4 c = search (slot-unused, needs)
+
+returns-5 : tie.Need-returns-5
+returns-5 c = search (slot-spoilt, needs)
+
+returns-6 : tie.Need-returns-6
+returns-6 c = search (slot-none, needs)
 
 pub match-slot-spec : {M : Type 1} → statement M
 match-slot-spec =
     tie.close
     (tie.spec
-    enum-told
-    enum-known-s
-    same-requires
-    enum-known-s-2
+    shared-slice-read-tag
+    add-u32-within
+    u32-within-requires
+    cast-match-variable
     match-variable-requires
-    enum-told-2
     returns
     returns-2
+    signed-requires
+    same-requires
     returns-3
-    returns-4)
+    returns-4
+    returns-5
+    returns-6)

@@ -3,43 +3,31 @@ use Rattle.search.proofs.Probed.{shows-other, shows-value, shows-symbol
 use borrow.Author.Needs.{needs}
 use Rattle.search.proofs.probing.passes.Statement.{statement}
 use Rattle.search.proofs.probing.passes.Tie as tie
-use Rattle.search.proofs.probing.passes.Reads as reads
-use Rattle.search.proofs.probing.passes.Lts as lts
-use Rattle.search.proofs.matching.same.Reads as same-reads
 
--- src/probing.rt:59:24
 element-copy-out-if1 : tie.Need-element-copy-out-if1
 element-copy-out-if1 c = search needs
 
--- src/probing.rt:60:9
 returns : tie.Need-returns
 returns c = search (shows-other, needs)
 
--- src/probing.rt:63:56
 mul-same : tie.Need-mul-same
 mul-same c = search needs
 
--- src/probing.rt:63:56
 add-same : tie.Need-add-same
 add-same c = search needs
 
--- src/probing.rt:63:51
 mul-same-2 : tie.Need-mul-same-2
 mul-same-2 c = search needs
 
--- src/probing.rt:63:51
 element-copy-out-same : tie.Need-element-copy-out-same
 element-copy-out-same c = search needs
 
--- src/probing.rt:63:9
 same-requires : tie.Need-same-requires
 same-requires c κs = search needs
 
--- src/probing.rt:63:9
 returns-2 : tie.Need-returns-2
 returns-2 c = search (shows-value, needs)
 
--- src/probing.rt:55:1
 returns-3 : tie.Need-returns-3
 returns-3 c = search (shows-symbol, needs)
 
