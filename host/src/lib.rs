@@ -26,6 +26,6 @@ pub mod names;
 pub mod outcome;
 pub mod plain;
 pub mod reference;
-pub mod swi;
 pub mod stored;
+pub mod swi;
 pub mod verdict;
