@@ -1,5 +1,5 @@
 -- The store's rows and its columns agree: one fact more, and those that are gone left out in place.
-use mathlib.Core.Path.{_≡_, refl, sym, ap, _∙_}
+use mathlib.Core.Path.{_≡_, refl, sym, ap, subst, _∙_}
 use mathlib.Core.Bool.{Bool, true, false, not}
 use mathlib.Core.List.{List, [], _∷_, _++_}
 use Prim.Native.Nat.{ℕ, zero, suc, _+_, _*_, _-_, _<_, _≤_}
@@ -7,7 +7,7 @@ use native.Mathlib.Omega.{arith}
 use native.Mathlib.Numerals.{add-one}
 use lib.IntN.{ℤ, pos}
 use lib.ListN.{getD, set, take, drop, length, length-set, length-replicate, replicate}
-use lib.Seq.{take-suc-set, getD-set-other, getD-set-same}
+use lib.Seq.{take-suc-set, getD-set-other, getD-set-same, set-getD}
 use Rattle.model.specs.declared.FactId.{FactId}
 use Rattle.model.specs.declared.Fact.{Fact}
 use Rattle.model.specs.declared.Stored.{Stored}
@@ -110,6 +110,29 @@ pub rows-none : (f : List Stored) (c : Columns) (n : ℕ) → Rows f c n → Row
 unfolding rowsFrom
 rows-none f c n r = record { room = r .room; symbolsLong = r .symbolsLong; idsLong = r .idsLong; argsLong = r .argsLong; few = omega arith; rows = refl }
 
+-- columns that hold the first n facts hold the first j of them
+pub rows-fewer : (f : List Stored) (c : Columns) (n j : ℕ) → j ≤ n → Rows f c n → Rows f c j
+unfolding rowsFrom
+rows-fewer f c n j l r = record {
+  room = r .room;
+  symbolsLong = r .symbolsLong;
+  idsLong = r .idsLong;
+  argsLong = r .argsLong;
+  few = omega (arith, r .few);
+  rows = sym (first-rows (c .symbols) (c .ids) (c .args) j n 0 l) ∙ ap (take j) (r .rows) ∙ first-of f j n l;
+}
+  where
+    first-rows : (s d : List ℕ) (a : List ℤ) (j n i : ℕ) → j ≤ n → take j (rowsFrom s d a i n) ≡ rowsFrom s d a i j
+    first-rows s d a zero n i l = refl
+    first-rows s d a (suc j) zero i l = absurd (omega arith)
+    first-rows s d a (suc j) (suc n) i l = ap (λ (m : List Stored). rowAt s d a i ∷ m) (first-rows s d a j n (suc i) (omega arith))
+
+    first-of : (l : List Stored) (j n : ℕ) → j ≤ n → take j (take n l) ≡ take j l
+    first-of l zero n h = refl
+    first-of l (suc j) zero h = absurd (omega arith)
+    first-of [] (suc j) (suc n) h = refl
+    first-of (x ∷ l) (suc j) (suc n) h = ap (λ (m : List Stored). x ∷ m) (first-of l j n (omega arith))
+
 pub rows-fresh : (x : Stored) (s d : List ℕ) (a : List ℤ) → length s ≡ 128 → length d ≡ 128 → length a ≡ 512 → Rows (replicate 128 x) (columnsOf s d a) 0
 unfolding rowsFrom
 rows-fresh x s d a es ed ea = record {
@@ -129,21 +152,41 @@ stays gone s = not (isAmong (s .id) gone)
 pub record Leaving (gone : List FactId) (f₀ : List Stored) (n : ℕ) (f : List Stored) (c : Columns) (j i : ℕ) : Type 0 where
   pub compacting : Compacting (stays gone) f₀ f n j i
   pub columns : Rows f c j
+  -- until one is left out, the columns hold all n
+  pub whole : j ≡ i → Rows f c n
   pub few : n ≤ 128
 
 pub leave-none : (gone : List FactId) (f : List Stored) (n : ℕ) (c : Columns) → Rows f c n → Leaving gone f n f c 0 0
-leave-none gone f n c r = record { compacting = compact-none (stays gone) f n (omega (arith, r .few, r .room)); columns = rows-none f c n r; few = r .few }
+leave-none gone f n c r = record { compacting = compact-none (stays gone) f n (omega (arith, r .few, r .room)); columns = rows-none f c n r; whole = λ e. r; few = r .few }
 
 module _ {gone : List FactId} {f₀ : List Stored} {n : ℕ} {f : List Stored} {c : Columns} {j i : ℕ} (r : Leaving gone f₀ n f c j i) (h : i < n) {b : Bool} (e : b ≡ isAmong (getD f i noStored .id) gone) where
   pub leave-out : b ≡ true → Leaving gone f₀ n f c j (i + 1)
   unfolding stays
-  leave-out t = record { compacting = compact-drop (r .compacting) h noStored (rw (← e, t)); columns = r .columns; few = r .few }
+  leave-out t = record {
+    compacting = compact-drop (r .compacting) h noStored (rw (← e, t));
+    columns = r .columns;
+    whole = λ (q : j ≡ i + 1). absurd (omega (arith, r .compacting .order .0));
+    few = r .few;
+  }
 
-  pub leave-in : b ≡ false → {c′ : Columns} → c′ ≡ putAt c j (getD f i noStored) → Leaving gone f₀ n (set f j (getD f i noStored)) c′ (j + 1) (i + 1)
+  -- the fact is where it belongs
+  pub leave-there : b ≡ false → j ≡ i → Leaving gone f₀ n f c (j + 1) (i + 1)
   unfolding stays
-  leave-in t p = record {
+  leave-there t q =
+      let same : set f j (getD f i noStored) ≡ f = rw q (set-getD f i noStored) in
+      record {
+        compacting = subst (λ (g : List Stored). Compacting (stays gone) f₀ g n (j + 1) (i + 1)) same (compact-keep (r .compacting) h noStored (rw (← e, t)));
+        columns = rows-fewer f c n (j + 1) (omega arith) (r .whole q);
+        whole = λ u. r .whole q;
+        few = r .few;
+      }
+
+  pub leave-in : b ≡ false → (j ≡ i → ⊥) → {c′ : Columns} → c′ ≡ putAt c j (getD f i noStored) → Leaving gone f₀ n (set f j (getD f i noStored)) c′ (j + 1) (i + 1)
+  unfolding stays
+  leave-in t d p = record {
     compacting = compact-keep (r .compacting) h noStored (rw (← e, t));
     columns = rw p (rows-more f c j (getD f i noStored) (omega (arith, r .few, r .compacting .order .0)) (r .columns));
+    whole = λ (q : j + 1 ≡ i + 1). let w : j ≡ i = omega arith in absurd (d w);
     few = r .few;
   }
 

@@ -173,7 +173,8 @@ pub fn take<'a>(
                                     let mut to: usize = 0;
                                     let mut row: usize = 0;
                                     while row < count {
-                                        let s = facts[row];
+                                        let here = row;
+                                        let s = facts[here];
                                         let own = s.id;
                                         row += 1;
                                         if search::history::is_among(
@@ -182,9 +183,14 @@ pub fn take<'a>(
                                             kept,
                                             all,
                                         ) {} else {
-                                            facts[to] = s;
-                                            crate::columns::put(symbols, ids, args, to, s);
-                                            to += 1;
+                                            // Until one is left out, each fact is where it belongs.
+                                            if to == here {
+                                                to += 1;
+                                            } else {
+                                                facts[to] = s;
+                                                crate::columns::put(symbols, ids, args, to, s);
+                                                to += 1;
+                                            }
                                         }
                                     }
                                     count = to;

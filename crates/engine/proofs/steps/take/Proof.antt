@@ -6,7 +6,7 @@ use lib.ListN.{take, drop}
 use Rattle.model.specs.Goal.{goalOf}
 use Rattle.search.specs.Views.{idsOf}
 use Rattle.engine.specs.Arrays.{columnsOf}
-use Rattle.engine.proofs.Rows.{Leaving, leave-none, leave-out, leave-in}
+use Rattle.engine.proofs.Rows.{Leaving, leave-none, leave-out, leave-there, leave-in}
 use Rattle.engine.proofs.Stacked.{Loading, load-none, Pushing, push-none, push-more}
 use Rattle.engine.proofs.Running.{Running, done, out-of-steps, failed, full, activates, drops, rule-few, occurrence-few, base-few, work-lies, posed, place-good, no-value, defaults, no-room, stack-room, history-room, propagates, simplifies}
 use Rattle.engine.proofs.Beginning.{by-result, begun-table, begun-goal, shape-is, fact-in, load-goal, begins}
@@ -489,9 +489,18 @@ loop4-again :
     tie.Need-loop4-again Inv-loop μ-loop Inv-loop3 μ-loop3 Inv-loop4 μ-loop4 Inv-loop2 μ-loop2
 loop4-again c = leave-out (c .before .before .before .before .before .before .loop4 .inv) (c .before .before .before .before .before .loop4-test .taken) (c .before .is-among .ensures) (c .if5 .taken)
 
+add-to : tie.Need-add-to Inv-loop μ-loop Inv-loop3 μ-loop3 Inv-loop4 μ-loop4 Inv-loop2 μ-loop2
+add-to c = omega (arith, c .before .before .before .before .before .before .before .loop4 .inv .compacting .order, c .before .before .before .before .before .before .before .loop4 .inv .few, c .before .before .before .before .before .before .loop4-test .taken)
+
+loop4-less-2 : tie.Need-loop4-less-2 Inv-loop μ-loop Inv-loop3 μ-loop3 Inv-loop4 μ-loop4 Inv-loop2 μ-loop2
+loop4-less-2 c = omega (arith, c .before .before .before .before .before .before .loop4-test .taken)
+
+loop4-again-2 : tie.Need-loop4-again-2 Inv-loop μ-loop Inv-loop3 μ-loop3 Inv-loop4 μ-loop4 Inv-loop2 μ-loop2
+loop4-again-2 c = leave-there (c .before .before .before .before .before .before .before .loop4 .inv) (c .before .before .before .before .before .before .loop4-test .taken) (c .before .before .is-among .ensures) (c .before .if5 .left) (c .if6 .taken)
+
 mul-facts-2 :
     tie.Need-mul-facts-2 Inv-loop μ-loop Inv-loop3 μ-loop3 Inv-loop4 μ-loop4 Inv-loop2 μ-loop2
-mul-facts-2 c = omega (arith, c .before .before .before .before .before .before .loop4 .inv .compacting .order, c .before .before .before .before .before .before .loop4 .inv .few, c .before .before .before .before .before .loop4-test .taken)
+mul-facts-2 c = omega (arith, c .before .before .before .before .before .before .before .loop4 .inv .compacting .order, c .before .before .before .before .before .before .before .loop4 .inv .few, c .before .before .before .before .before .before .loop4-test .taken)
 
 array-set-from-facts-2 :
     tie.Need-array-set-from-facts-2
@@ -503,22 +512,22 @@ array-set-from-facts-2 :
     μ-loop4
     Inv-loop2
     μ-loop2
-array-set-from-facts-2 c = omega (arith, c .before .before .before .before .before .before .loop4 .inv .compacting .order, c .before .before .before .before .before .before .loop4 .inv .few, c .before .before .before .before .before .loop4-test .taken)
+array-set-from-facts-2 c = omega (arith, c .before .before .before .before .before .before .before .loop4 .inv .compacting .order, c .before .before .before .before .before .before .before .loop4 .inv .few, c .before .before .before .before .before .before .loop4-test .taken)
 
 put-requires-2 :
     tie.Need-put-requires-2 Inv-loop μ-loop Inv-loop3 μ-loop3 Inv-loop4 μ-loop4 Inv-loop2 μ-loop2
-put-requires-2 c κs = omega (arith, c .before .before .before .before .before .before .before .before .before .loop4 .inv .compacting .order, c .before .before .before .before .before .before .before .before .before .loop4 .inv .few, c .before .before .before .before .before .before .before .before .loop4-test .taken)
+put-requires-2 c κs = omega (arith, c .before .before .before .before .before .before .before .before .before .before .loop4 .inv .compacting .order, c .before .before .before .before .before .before .before .before .before .before .loop4 .inv .few, c .before .before .before .before .before .before .before .before .before .loop4-test .taken)
 
-add-to : tie.Need-add-to Inv-loop μ-loop Inv-loop3 μ-loop3 Inv-loop4 μ-loop4 Inv-loop2 μ-loop2
-add-to c = omega (arith, c .before .before .before .before .before .before .before .before .before .before .loop4 .inv .compacting .order, c .before .before .before .before .before .before .before .before .before .before .loop4 .inv .few, c .before .before .before .before .before .before .before .before .before .loop4-test .taken)
+add-to-2 : tie.Need-add-to-2 Inv-loop μ-loop Inv-loop3 μ-loop3 Inv-loop4 μ-loop4 Inv-loop2 μ-loop2
+add-to-2 c = omega (arith, c .before .before .before .before .before .before .before .before .before .before .before .loop4 .inv .compacting .order, c .before .before .before .before .before .before .before .before .before .before .before .loop4 .inv .few, c .before .before .before .before .before .before .before .before .before .before .loop4-test .taken)
 
-loop4-less-2 :
-    tie.Need-loop4-less-2 Inv-loop μ-loop Inv-loop3 μ-loop3 Inv-loop4 μ-loop4 Inv-loop2 μ-loop2
-loop4-less-2 c = omega (arith, c .before .before .before .before .before .before .before .before .before .loop4-test .taken)
+loop4-less-3 :
+    tie.Need-loop4-less-3 Inv-loop μ-loop Inv-loop3 μ-loop3 Inv-loop4 μ-loop4 Inv-loop2 μ-loop2
+loop4-less-3 c = omega (arith, c .before .before .before .before .before .before .before .before .before .before .loop4-test .taken)
 
-loop4-again-2 :
-    tie.Need-loop4-again-2 Inv-loop μ-loop Inv-loop3 μ-loop3 Inv-loop4 μ-loop4 Inv-loop2 μ-loop2
-loop4-again-2 c = leave-in (c .before .before .before .before .before .before .before .before .before .before .loop4 .inv) (c .before .before .before .before .before .before .before .before .before .loop4-test .taken) (c .before .before .before .before .before .is-among .ensures) (c .before .before .before .before .if5 .left) (c .put2 .ensures)
+loop4-again-3 :
+    tie.Need-loop4-again-3 Inv-loop μ-loop Inv-loop3 μ-loop3 Inv-loop4 μ-loop4 Inv-loop2 μ-loop2
+loop4-again-3 c = leave-in (c .before .before .before .before .before .before .before .before .before .before .before .loop4 .inv) (c .before .before .before .before .before .before .before .before .before .before .loop4-test .taken) (c .before .before .before .before .before .before .is-among .ensures) (c .before .before .before .before .before .if5 .left) (c .before .before .before .before .if6 .left) (c .put2 .ensures)
 
 prune-requires :
     tie.Need-prune-requires Inv-loop μ-loop Inv-loop3 μ-loop3 Inv-loop4 μ-loop4 Inv-loop2 μ-loop2
@@ -554,11 +563,11 @@ ended-requires-7 c κs = search needs
 
 returns-6 :
     tie.Need-returns-6 Inv-loop μ-loop Inv-loop3 μ-loop3 Inv-loop4 μ-loop4 Inv-loop2 μ-loop2
-returns-6 c = by-result (c .ended6 .ensures) (done (c .before .before .before .loop2 .inv) (c .before .if6 .taken))
+returns-6 c = by-result (c .ended6 .ensures) (done (c .before .before .before .loop2 .inv) (c .before .if7 .taken))
 
 returns-7 :
     tie.Need-returns-7 Inv-loop μ-loop Inv-loop3 μ-loop3 Inv-loop4 μ-loop4 Inv-loop2 μ-loop2
-returns-7 c = by-result (c .ended7 .ensures) (out-of-steps (c .before .before .before .loop2 .inv) (c .before .before .loop2-test .left) (c .before .if6 .left))
+returns-7 c = by-result (c .ended7 .ensures) (out-of-steps (c .before .before .before .loop2 .inv) (c .before .before .loop2-test .left) (c .before .if7 .left))
 
 pub take-spec : {M : Type 1} → statement M
 take-spec =
@@ -656,12 +665,15 @@ take-spec =
     is-among-requires
     loop4-less
     loop4-again
-    mul-facts-2
-    array-set-from-facts-2
-    put-requires-2
     add-to
     loop4-less-2
     loop4-again-2
+    mul-facts-2
+    array-set-from-facts-2
+    put-requires-2
+    add-to-2
+    loop4-less-3
+    loop4-again-3
     prune-requires
     loop2-less-5
     loop2-again-5
