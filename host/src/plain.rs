@@ -7,18 +7,19 @@ mod decode;
 mod expression;
 mod machine;
 mod occurrences;
+mod rules;
 mod search;
 mod store;
 
 use crate::format::{ANSWER_LEN, GOAL_FACT, GOAL_RECORD_LEN, MAX_GOAL, MAX_LIMIT};
 use crate::outcome::{Outcome, Refusal};
-use decode::Table;
 use machine::Machine;
+use rules::Table;
 use store::Fact;
 
-/// Checks a table.
+/// Checks a table, and decodes nothing.
 pub fn check(table: &[u8]) -> Outcome {
-    match decode::read(table) {
+    match decode::read(table, &mut ()) {
         Ok(_) => Outcome::GOOD,
         Err(refusal) => refusal.into(),
     }
@@ -26,7 +27,7 @@ pub fn check(table: &[u8]) -> Outcome {
 
 /// Runs a goal, and writes the answer only for number 0.
 pub fn run(table: &[u8], goal: &[u8], limit: u32, answer: &mut [u8]) -> Outcome {
-    let table = match decode::read(table) {
+    let table = match Table::read(table) {
         Ok(table) => table,
         Err(refusal) => return refusal.into(),
     };
@@ -67,9 +68,8 @@ fn test_call(table: &Table, goal: &[u8], limit: u32, answer_len: usize) -> Resul
 
 /// Whether a record is a goal fact of the table's symbols.
 fn is_goal_fact(table: &Table, record: &[u8]) -> bool {
-    record[0] == GOAL_FACT
-        && usize::from(record[1]) < table.symbols
-        && decode::zero(&record[2 + 4 * usize::from(table.arities[usize::from(record[1])])..])
+    let later = |arity: usize| decode::zero(&record[2 + 4 * arity..]);
+    record[0] == GOAL_FACT && table.symbols.arity(record[1]).map_or(false, later)
 }
 
 /// The fact of a tested goal record.

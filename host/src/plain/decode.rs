@@ -1,87 +1,89 @@
-//! Checks and decodes a table in one pass.
+//! Tests a table in one pass, and hands each part to a sink as soon as it is tested. A sink that
+//! takes nothing leaves a plain check.
 
-use super::expression::{Expression, Slot, CONSTANT, UNUSED, VARIABLE};
+use super::expression::{Expression, Slot, CONSTANT, VARIABLE};
 use crate::format::{
     body_len, BODY_FACT, BODY_FAIL, END, EXPRESSION_LEN, GUARD, KEPT, MAX_GUARDS, MAX_HEADS,
     MAX_ITEMS, MAX_RULES, MAX_SYMBOLS, PLACES, REMOVED, RULE, SLOT_LEN, SYMBOL, VARIABLES,
 };
 use crate::outcome::Refusal;
 
-/// A head: slots behind the arity are unused.
-#[derive(Clone, Copy, Default)]
-pub struct Head {
-    pub symbol: u8,
-    pub slots: [Slot; PLACES],
+/// What takes in the parts of the rules, in the order of the bytes.
+pub trait Sink {
+    fn rule(&mut self) {}
+    fn head(&mut self, _kind: u8, _symbol: u8) {}
+    fn slot(&mut self, _place: usize, _slot: Slot) {}
+    fn guard(&mut self, _comparator: u8, _left: Expression, _right: Expression) {}
+    fn fact(&mut self, _symbol: u8, _arity: usize) {}
+    fn argument(&mut self, _place: usize, _argument: Expression) {}
+    fn fail(&mut self) {}
 }
 
-/// A guard comparison.
-#[derive(Clone, Copy, Default)]
-pub struct Guard {
-    pub comparator: u8,
-    pub left: Expression,
-    pub right: Expression,
+impl Sink for () {}
+
+/// The declared symbols.
+pub struct Symbols {
+    arities: [u8; MAX_SYMBOLS],
+    count: usize,
 }
 
-/// A body item; a fail has no symbol.
-#[derive(Clone, Copy, Default)]
-pub struct Item {
-    pub is_fail: bool,
-    pub symbol: u8,
-    pub arity: u8,
-    pub arguments: [Expression; PLACES],
+impl Symbols {
+    pub fn arity(&self, symbol: u8) -> Option<usize> {
+        let symbol = usize::from(symbol);
+        (symbol < self.count).then(|| usize::from(self.arities[symbol]))
+    }
 }
 
-/// A rule in fixed room.
-#[derive(Clone, Copy, Default)]
-pub struct Rule {
-    pub heads: [Head; MAX_HEADS],
-    pub guards: [Guard; MAX_GUARDS],
-    pub items: [Item; MAX_ITEMS],
-    pub head_count: usize,
-    pub kept_count: usize,
-    pub guard_count: usize,
-    pub item_count: usize,
-    /// A bit for each variable that a head names.
-    pub variables: u32,
-}
-
-/// A decoded table.
-pub struct Table {
-    pub arities: [u8; MAX_SYMBOLS],
-    pub symbols: usize,
-    pub rules: Vec<Rule>,
+/// What the records before an offset have said.
+struct Reader<'a, S> {
+    sink: &'a mut S,
+    symbols: Symbols,
+    rules: usize,
     /// The kind of the last record read, 0 before the first.
     last: u8,
+    /// The parts of the rule that is being read.
+    heads: usize,
+    guards: usize,
+    items: usize,
+    /// A bit for each variable that a head of it names.
+    named: u32,
 }
 
 /// Reads a table up to its last byte.
-pub fn read(bytes: &[u8]) -> Result<Table, Refusal> {
-    let mut table = Table {
-        arities: [0; MAX_SYMBOLS],
-        symbols: 0,
-        rules: Vec::new(),
+pub fn read<S: Sink>(bytes: &[u8], sink: &mut S) -> Result<Symbols, Refusal> {
+    let mut reader = Reader {
+        sink,
+        symbols: Symbols {
+            arities: [0; MAX_SYMBOLS],
+            count: 0,
+        },
+        rules: 0,
         last: 0,
+        heads: 0,
+        guards: 0,
+        items: 0,
+        named: 0,
     };
     let mut at = 0;
     while at < bytes.len() {
         let kind = bytes[at];
-        let len = match table.record(&bytes[at..]) {
+        let len = match reader.record(&bytes[at..]) {
             Ok(len) => len,
             Err(number) => return Err(Refusal::at(number, at)),
         };
         at += len;
         if kind == END {
             return match at == bytes.len() {
-                true => Ok(table),
+                true => Ok(reader.symbols),
                 false => Err(Refusal::at(23, at)),
             };
         }
-        table.last = kind;
+        reader.last = kind;
     }
     Err(Refusal::at(17, at))
 }
 
-impl Table {
+impl<S: Sink> Reader<'_, S> {
     /// Tests one record and takes it in: its length, or the number it is refused with.
     fn record(&mut self, bytes: &[u8]) -> Result<usize, u32> {
         let kind = bytes[0];
@@ -102,7 +104,8 @@ impl Table {
             RULE => self.rule()?,
             KEPT | REMOVED => self.head(kind, body)?,
             GUARD => self.guard(body)?,
-            BODY_FACT | BODY_FAIL => self.item(kind, body)?,
+            BODY_FACT => self.fact(body)?,
+            BODY_FAIL => self.fail()?,
             _ => {}
         }
         Ok(len)
@@ -120,108 +123,85 @@ impl Table {
     }
 
     fn symbol(&mut self, arity: u8) -> Result<(), u32> {
-        if self.symbols == MAX_SYMBOLS {
+        if self.symbols.count == MAX_SYMBOLS {
             return Err(19);
         }
         if usize::from(arity) > PLACES {
             return Err(20);
         }
-        self.arities[self.symbols] = arity;
-        self.symbols += 1;
+        self.symbols.arities[self.symbols.count] = arity;
+        self.symbols.count += 1;
         Ok(())
     }
 
     fn rule(&mut self) -> Result<(), u32> {
-        if self.rules.len() == MAX_RULES {
-            return Err(19);
-        }
-        self.rules.push(Rule::default());
+        count(&mut self.rules, MAX_RULES)?;
+        self.heads = 0;
+        self.guards = 0;
+        self.items = 0;
+        self.named = 0;
+        self.sink.rule();
         Ok(())
     }
 
     fn head(&mut self, kind: u8, body: &[u8]) -> Result<(), u32> {
-        let arity = self.arity(body[0]);
-        let rule = self.rules.last_mut().expect("order was tested");
-        if rule.head_count == MAX_HEADS {
-            return Err(19);
-        }
-        let arity = arity.ok_or(20_u32)?;
-        let mut head = Head {
-            symbol: body[0],
-            ..Head::default()
-        };
+        count(&mut self.heads, MAX_HEADS)?;
+        let arity = self.symbols.arity(body[0]).ok_or(20_u32)?;
+        self.sink.head(kind, body[0]);
         for (place, bytes) in body[1..].chunks_exact(SLOT_LEN).enumerate() {
-            head.slots[place] = slot(bytes, place < arity).ok_or(20_u32)?;
-            rule.variables |= head.slots[place].variables();
+            let slot = slot(bytes, place < arity).ok_or(20_u32)?;
+            self.named |= slot.variables();
+            self.sink.slot(place, slot);
         }
-        rule.heads[rule.head_count] = head;
-        rule.head_count += 1;
-        rule.kept_count += usize::from(kind == KEPT);
         Ok(())
     }
 
     fn guard(&mut self, body: &[u8]) -> Result<(), u32> {
-        let rule = self.rules.last_mut().expect("order was tested");
-        if rule.guard_count == MAX_GUARDS {
-            return Err(19);
-        }
+        count(&mut self.guards, MAX_GUARDS)?;
         if body[0] > 5 {
             return Err(20);
         }
-        let guard = Guard {
-            comparator: body[0],
-            left: expression(&body[1..], true).ok_or(20_u32)?,
-            right: expression(&body[1 + EXPRESSION_LEN..], true).ok_or(20_u32)?,
-        };
-        let variables = guard.left.variables() | guard.right.variables();
-        if variables & !rule.variables != 0 {
-            return Err(22);
+        let left = expression(&body[1..], true).ok_or(20_u32)?;
+        let right = expression(&body[1 + EXPRESSION_LEN..], true).ok_or(20_u32)?;
+        self.sink.guard(body[0], left, right);
+        self.all_named(left.variables() | right.variables())
+    }
+
+    fn fact(&mut self, body: &[u8]) -> Result<(), u32> {
+        count(&mut self.items, MAX_ITEMS)?;
+        let arity = self.symbols.arity(body[0]).ok_or(20_u32)?;
+        self.sink.fact(body[0], arity);
+        let mut variables = 0;
+        for (place, bytes) in body[1..].chunks_exact(EXPRESSION_LEN).enumerate() {
+            let argument = expression(bytes, place < arity).ok_or(20_u32)?;
+            variables |= argument.variables();
+            self.sink.argument(place, argument);
         }
-        rule.guards[rule.guard_count] = guard;
-        rule.guard_count += 1;
+        self.all_named(variables)
+    }
+
+    fn fail(&mut self) -> Result<(), u32> {
+        count(&mut self.items, MAX_ITEMS)?;
+        self.sink.fail();
         Ok(())
     }
 
-    fn item(&mut self, kind: u8, body: &[u8]) -> Result<(), u32> {
-        let arity = body.first().and_then(|symbol| self.arity(*symbol));
-        let rule = self.rules.last_mut().expect("order was tested");
-        if rule.item_count == MAX_ITEMS {
-            return Err(19);
+    /// 22 is tested behind 20 of the whole record.
+    fn all_named(&self, variables: u32) -> Result<(), u32> {
+        match variables & !self.named {
+            0 => Ok(()),
+            _ => Err(22),
         }
-        let item = match kind {
-            BODY_FAIL => Item {
-                is_fail: true,
-                ..Item::default()
-            },
-            _ => body_fact(body, arity.ok_or(20_u32)?)?,
-        };
-        let named = item.arguments.iter().fold(0, |m, e| m | e.variables());
-        if named & !rule.variables != 0 {
-            return Err(22);
-        }
-        rule.items[rule.item_count] = item;
-        rule.item_count += 1;
-        Ok(())
-    }
-
-    fn arity(&self, symbol: u8) -> Option<usize> {
-        let symbol = usize::from(symbol);
-        (symbol < self.symbols).then(|| usize::from(self.arities[symbol]))
     }
 }
 
-/// A body fact of a symbol with this arity.
-fn body_fact(body: &[u8], arity: usize) -> Result<Item, u32> {
-    let mut item = Item {
-        is_fail: false,
-        symbol: body[0],
-        arity: arity as u8,
-        ..Item::default()
-    };
-    for (place, bytes) in body[1..].chunks_exact(EXPRESSION_LEN).enumerate() {
-        item.arguments[place] = expression(bytes, place < arity).ok_or(20_u32)?;
+/// One more of a sort, unless it is one too many.
+fn count(n: &mut usize, most: usize) -> Result<(), u32> {
+    if *n == most {
+        return Err(19);
     }
-    Ok(item)
+    *n += 1;
+    Ok(())
 }
 
 /// A slot; an unused one is zero in every byte.
@@ -250,12 +230,10 @@ fn expression(bytes: &[u8], used: bool) -> Option<Expression> {
     if operation > 5 {
         return None;
     }
-    let second = slot(&bytes[1 + SLOT_LEN..], operation != 0)?;
-    debug_assert!(operation != 0 || second.tag == UNUSED);
     Some(Expression {
         operation,
         first: slot(&bytes[1..], true)?,
-        second,
+        second: slot(&bytes[1 + SLOT_LEN..], operation != 0)?,
     })
 }
 

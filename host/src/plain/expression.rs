@@ -2,8 +2,6 @@
 
 use crate::format::VARIABLES;
 
-/// Tag of an unused slot.
-pub const UNUSED: u8 = 0;
 /// Tag of a constant.
 pub const CONSTANT: u8 = 1;
 /// Tag of a variable.

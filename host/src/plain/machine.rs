@@ -1,8 +1,8 @@
 //! The run's loop over a state in fixed room.
 
-use super::decode::{Item, Table};
 use super::expression::Values;
 use super::occurrences::{HeadPlace, Occurrences};
+use super::rules::{Item, Table};
 use super::search::{Found, Search};
 use super::store::{Chosen, Fact, History, Store};
 use crate::format::{HISTORY, MAX_ITEMS, PLACES, STACK, STORE};

@@ -1,7 +1,7 @@
 //! The occurrence list as flat arrays: the head places of symbol s are those from `starts[s]`
 //! up to `starts[s + 1]`.
 
-use super::decode::Table;
+use super::rules::Table;
 use crate::format::{MAX_HEADS, MAX_RULES, MAX_SYMBOLS};
 use crate::names::Occurrence;
 

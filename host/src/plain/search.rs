@@ -1,7 +1,7 @@
 //! The partner search: depth first over the heads left to match, identifiers tried upward.
 
-use super::decode::{Head, Rule};
 use super::expression::{holds, Values, CONSTANT, VARIABLE};
+use super::rules::{Head, Rule};
 use super::store::{Chosen, History, Store};
 use crate::format::{MAX_HEADS, VARIABLES};
 use crate::names::RuleNumber;
