@@ -1,3 +1,3 @@
 pub mod Tests
 pub mod Constants
-pub mod Heads
+pub mod Marks

@@ -1,11 +1,15 @@
--- What `table::read` keeps of a scan: at most 64 rules, and the heads of the rule that is being read lie before the next record.
+-- What `table::read` keeps of a scan: at most 64 rules; and up to the last head of a rule the next record stands right behind its heads, so that a
+-- head that is read is the next one of its rule.
 use Prim.Native.Nat.{ℕ, _+_, _*_, _≤_, zero-le}
 use mathlib.Core.Path.{_≡_, refl, sym, _∙_, subst}
 use mathlib.Core.List.{List}
-use mathlib.Core.Bool.{Bool, true, false, cond}
+use mathlib.Core.Bool.{Bool, true, false, cond, _||_, true≢false}
 use native.Mathlib.Omega.{arith}
-use borrow.Author.Tests.{leb-false}
-use Rattle.model.specs.Records.{tooMany}
+use lib.ListN.{length}
+use lib.Dec.{ltb}
+use borrow.Author.Tests.{leb-false, ltb-false}
+use Rattle.records.specs.Named.{Follows, headless, head, same}
+use Rattle.model.specs.Records.{sizeOf, earliestOf, latestOf, outOfOrder, tooMany}
 use Rattle.model.specs.Reading.{behind, fieldsOf, orderedOf, testedOf, recordOf, firstScan}
 use Rattle.model.specs.declared.Kind.{Kind}
 use Rattle.model.specs.declared.Kind.the-variants.{NextSymbol, NextRule, KeptHead, RemovedHead, Comparison, BodyFact, BodyFail, EndOfTable, Unknown}
@@ -15,35 +19,57 @@ use Rattle.model.specs.declared.RecordStep.the-variants.{Next, Stop, Done}
 
 pub record Sound (s : Scan) : Type 0 where
   pub rules : s .rules ≤ 64
-  pub headsBehind : s .shape .start + 22 * s .shape .heads ≤ s .at
+  pub atHeads : 1 ≤ s .stage → s .stage ≤ 3 → s .at ≡ s .shape .start + 1 + 22 * s .shape .heads
 
 pub first-sound : Sound firstScan
-first-sound = record { rules = zero-le; headsBehind = zero-le }
+first-sound = record { rules = zero-le; atHeads = λ low high. absurd (omega arith) }
 
-abbrev After : RecordStep → Type 0
-After (Next s) = Sound s
-After (Stop n p) = Unit {0}
-After (Done p) = Unit {0}
+-- behind a good record: the scan is sound again, and the record followed the rule's heads or was none
+pub record Behind (t : List ℕ) (s s′ : Scan) : Type 0 where
+  pub sound : Sound s′
+  pub follows : Follows t (s .at) (s .shape) (s′ .shape)
 
-stopped : (b : Bool) (n p : ℕ) (y : RecordStep) → (b ≡ false → After y) → After (cond b (Stop n p) y)
-stopped true n p y q = tt
-stopped false n p y q = q refl
+abbrev After : List ℕ → Scan → RecordStep → Type 0
+After t s (Next s′) = Behind t s s′
+After t s (Stop n p) = Unit {0}
+After t s (Done p) = Unit {0}
 
-behind-sound : (s : Scan) (k : Kind) → Sound s → tooMany k s ≡ false → After (behind s k)
-unfolding behind
-behind-sound s NextSymbol w m = record { rules = w .rules; headsBehind = omega (arith, w .headsBehind) }
-behind-sound s NextRule w m = record { rules = omega (arith, leb-false 64 (s .rules) m); headsBehind = omega arith }
-behind-sound s KeptHead w m = record { rules = w .rules; headsBehind = omega (arith, w .headsBehind) }
-behind-sound s RemovedHead w m = record { rules = w .rules; headsBehind = omega (arith, w .headsBehind) }
-behind-sound s Comparison w m = record { rules = w .rules; headsBehind = omega (arith, w .headsBehind) }
-behind-sound s BodyFact w m = record { rules = w .rules; headsBehind = omega (arith, w .headsBehind) }
-behind-sound s BodyFail w m = record { rules = w .rules; headsBehind = omega (arith, w .headsBehind) }
-behind-sound s EndOfTable w m = tt
-behind-sound s Unknown w m = tt
+stopped : (t : List ℕ) (s : Scan) (b : Bool) (n p : ℕ) (y : RecordStep) → (b ≡ false → After t s y) → After t s (cond b (Stop n p) y)
+stopped t s true n p y q = tt
+stopped t s false n p y q = q refl
 
-record-sound : (t : List ℕ) (s : Scan) → Sound s → After (recordOf t s)
-unfolding recordOf testedOf orderedOf fieldsOf
-record-sound t s w = search (stopped, behind-sound) depth 20
+neither : (a b : Bool) → (a || b) ≡ false → (a ≡ false) × (b ≡ false)
+neither true b e = absurd (true≢false e)
+neither false b e = (refl, e)
 
-pub next-sound : (t : List ℕ) (s : Scan) {r : RecordStep} {s′ : Scan} → r ≡ recordOf t s → r ≡ Next s′ → Sound s → Sound s′
-next-sound t s e d w = subst After (sym e ∙ d) (record-sound t s w)
+in-time : (k : Kind) (stage : ℕ) → outOfOrder k stage ≡ false → (earliestOf k ≤ stage) × (stage ≤ latestOf k)
+unfolding outOfOrder
+in-time k stage e = let n = neither (ltb stage (earliestOf k)) (ltb (latestOf k) stage) e in (ltb-false _ _ (n .0), ltb-false _ _ (n .1))
+
+-- a record that stands where it may, is not one too many and lies in the table
+module _ (t : List ℕ) (s : Scan) (w : Sound s) where
+  at-heads : (k : Kind) → outOfOrder k (s .stage) ≡ false → 1 ≤ earliestOf k → latestOf k ≤ 3 → s .at ≡ s .shape .start + 1 + 22 * s .shape .heads
+  at-heads k e low high = w .atHeads (omega (arith, in-time k (s .stage) e .0)) (omega (arith, in-time k (s .stage) e .1))
+
+  behind-sound : (k : Kind) → ltb (length t) (s .at + sizeOf k) ≡ false → outOfOrder k (s .stage) ≡ false → tooMany k s ≡ false → After t s (behind s k)
+  unfolding behind
+  behind-sound NextSymbol l o m = record { sound = record { rules = w .rules; atHeads = λ low high. absurd (omega arith) }; follows = same refl refl }
+  behind-sound NextRule l o m = record { sound = record { rules = omega (arith, leb-false 64 (s .rules) m); atHeads = λ low high. omega arith }; follows = headless refl }
+  behind-sound KeptHead l o m =
+      let e = at-heads KeptHead o (omega arith) (omega arith) in
+      record { sound = record { rules = w .rules; atHeads = λ low high. omega arith }; follows = head refl refl e (ltb-false (length t) (s .at + 22) l) }
+  behind-sound RemovedHead l o m =
+      let e = at-heads RemovedHead o (omega arith) (omega arith) in
+      record { sound = record { rules = w .rules; atHeads = λ low high. omega arith }; follows = head refl refl e (ltb-false (length t) (s .at + 22) l) }
+  behind-sound Comparison l o m = record { sound = record { rules = w .rules; atHeads = λ low high. absurd (omega arith) }; follows = same refl refl }
+  behind-sound BodyFact l o m = record { sound = record { rules = w .rules; atHeads = λ low high. absurd (omega arith) }; follows = same refl refl }
+  behind-sound BodyFail l o m = record { sound = record { rules = w .rules; atHeads = λ low high. absurd (omega arith) }; follows = same refl refl }
+  behind-sound EndOfTable l o m = tt
+  behind-sound Unknown l o m = tt
+
+  record-sound : After t s (recordOf t s)
+  unfolding recordOf testedOf orderedOf fieldsOf
+  record-sound = search (stopped, behind-sound) depth 20
+
+  pub next-behind : {r : RecordStep} {s′ : Scan} → r ≡ recordOf t s → r ≡ Next s′ → Behind t s s′
+  next-behind e d = subst (After t s) (sym e ∙ d) record-sound

@@ -11,6 +11,7 @@ use model::RecordStep;
 use model::RuleShape;
 use model::Scan;
 use model::Verdict;
+use records::variables;
 
 fn no_shape() -> RuleShape
     ensures { λ r. ⌜ r ≡ noShape ⌝ }
@@ -65,14 +66,18 @@ pub fn read(t: &[u8]) -> Reading
     let none = no_shape();
     let mut shapes = [none; 64];
     let mut s = first_scan();
+    let mut named = variables::no_marks();
     let mut left = t.len();
     while 0 < left {
         left -= 1;
-        match record::read_record(t, s) {
+        match record::read_record(t, s, &named) {
             RecordStep::Next(next) => {
+                let at = s.at;
+                let before = s.shape;
                 s = next;
                 let rules = s.rules as usize;
                 let shape = s.shape;
+                variables::mark(t, at, before, shape, &mut named);
                 if 0 < rules {
                     shapes[rules - 1] = shape;
                 }

@@ -1,9 +1,10 @@
 // One record: its tests in the order 16, 17; 18, 21, 19; 20, 22, and what is known behind it.
 ghost use mathlib.Core.Path.{_≡_};
 ghost use mathlib.Core.Bool.{false};
-ghost use Prim.Native.Nat.{_+_, _*_, _^_, _≤_, _<_};
+ghost use Prim.Native.Nat.{_+_, _^_, _≤_, _<_};
 ghost use lib.ListN.{length};
 ghost use Rattle.model.specs.Records.{sizeOf, tooMany};
+ghost use Rattle.records.specs.Named.{Named};
 ghost use Rattle.model.specs.Reading.{withSymbol, withRule, withPart, withKept, withRemoved, withGuard, withItem, behind, fieldsOf, orderedOf, testedOf, recordOf};
 use model::Kind;
 use model::RecordStep;
@@ -137,23 +138,23 @@ fn behind(s: Scan, k: Kind) -> RecordStep
 // ---- the tests of a record of kind k, in three layers
 
 // 20, 22
-fn fields(t: &[u8], s: Scan, k: Kind) -> RecordStep
-    requires { ⌜ (tooMany k s ≡ false) × (s .at + sizeOf k ≤ length (now t)) × (s .shape .start + 1 + 22 * s .shape .heads ≤ length (now t)) ⌝ }
+fn fields(t: &[u8], s: Scan, k: Kind, named: &[bool; 16]) -> RecordStep
+    requires { ⌜ (tooMany k s ≡ false) × (s .at + sizeOf k ≤ length (now t)) × Named (now t) (s .shape) (now named) ⌝ }
     ensures { λ r. ⌜ r ≡ fieldsOf (now (t .entry)) s k ⌝ }
 {
     let at = s.at;
     if fields::bad_field(t, s, k) {
         return RecordStep::Stop(20, at);
     }
-    if variables::strange(t, s, k) {
+    if variables::strange(t, s, k, named) {
         return RecordStep::Stop(22, at);
     }
     behind(s, k)
 }
 
 // 18, 21, 19
-fn ordered(t: &[u8], s: Scan, k: Kind) -> RecordStep
-    requires { ⌜ (s .at + sizeOf k ≤ length (now t)) × (s .shape .start + 1 + 22 * s .shape .heads ≤ length (now t)) ⌝ }
+fn ordered(t: &[u8], s: Scan, k: Kind, named: &[bool; 16]) -> RecordStep
+    requires { ⌜ (s .at + sizeOf k ≤ length (now t)) × Named (now t) (s .shape) (now named) ⌝ }
     ensures { λ r. ⌜ r ≡ orderedOf (now (t .entry)) s k ⌝ }
 {
     let at = s.at;
@@ -166,12 +167,12 @@ fn ordered(t: &[u8], s: Scan, k: Kind) -> RecordStep
     if kinds::too_many(k, s) {
         return RecordStep::Stop(19, at);
     }
-    fields(t, s, k)
+    fields(t, s, k, named)
 }
 
 // 16, 17
-fn tested(t: &[u8], s: Scan, k: Kind) -> RecordStep
-    requires { ⌜ (s .at < length (now t)) × (s .shape .start + 22 * s .shape .heads ≤ s .at) ⌝ }
+fn tested(t: &[u8], s: Scan, k: Kind, named: &[bool; 16]) -> RecordStep
+    requires { ⌜ (s .at < length (now t)) × Named (now t) (s .shape) (now named) ⌝ }
     ensures { λ r. ⌜ r ≡ testedOf (now (t .entry)) s k ⌝ }
 {
     let at = s.at;
@@ -182,12 +183,12 @@ fn tested(t: &[u8], s: Scan, k: Kind) -> RecordStep
     if t.len() - at < size {
         return RecordStep::Stop(17, at);
     }
-    ordered(t, s, k)
+    ordered(t, s, k, named)
 }
 
-// The record where the scan stands; behind the heads of the rule that is being read.
-pub fn read_record(t: &[u8], s: Scan) -> RecordStep
-    requires { ⌜ s .shape .start + 22 * s .shape .heads ≤ s .at ⌝ }
+// The record where the scan stands; the variables of the heads of the rule that is being read are marked.
+pub fn read_record(t: &[u8], s: Scan, named: &[bool; 16]) -> RecordStep
+    requires { ⌜ Named (now t) (s .shape) (now named) ⌝ }
     ensures { λ r. ⌜ r ≡ recordOf (now (t .entry)) s ⌝ }
 {
     let at = s.at;
@@ -195,5 +196,5 @@ pub fn read_record(t: &[u8], s: Scan) -> RecordStep
         return RecordStep::Stop(17, t.len());
     }
     let k = kinds::kind_of(t[at]);
-    tested(t, s, k)
+    tested(t, s, k, named)
 }
