@@ -1,14 +1,15 @@
 -- The marks of a rule's variables: what marking a head adds, what a record leaves of them, and what a mark says of a slot. A head more stands behind
 -- the others, so that a variable is in one of the heads where it is in one of the earlier ones or in the last.
-use Prim.Native.Nat.{ℕ, zero, suc, _+_, _*_, _<_, _≤_}
+use Prim.Native.Nat.{ℕ, zero, suc, _+_, _*_, _%_, _<_, _≤_}
 use mathlib.Core.Path.{_≡_, refl, sym, ap, _∙_, subst}
 use mathlib.Core.List.{List}
-use mathlib.Core.Bool.{Bool, true, false, cond, not, _||_, or-assoc, or-comm, or-false}
+use mathlib.Core.Bool.{Bool, true, false, cond, not, _||_, _&&_, true≢false, or-assoc, or-comm, or-false, and-true, and-false}
 use native.Mathlib.Omega.{arith}
+use native.Mathlib.Nat.{mod-eq-of-lt}
 use lib.ListN.{length, getD, set, replicate, length-set, getD-replicate}
 use lib.Seq.{getD-set-same, getD-set-other}
 use lib.Dec.{ltb, eqb}
-use borrow.Author.Tests.{ltb-true, eqb-true, eqb-false}
+use borrow.Author.Tests.{ltb-true, lt-ltb, le-ltb, eqb-true, eqb-false}
 use Rattle.wire.specs.Wire.{u32At, signedOf}
 use Rattle.model.specs.Slots.{slotBy, slotAt}
 use Rattle.model.specs.Variables.{isVariable, headHas, inHeads, strangeSlot}
@@ -16,6 +17,20 @@ use Rattle.model.specs.declared.RuleShape.{RuleShape}
 use Rattle.model.specs.declared.Slot.{Slot}
 use Rattle.model.specs.declared.Slot.the-variants.{Unused, Constant, Variable, Bad}
 use Rattle.records.specs.Named.{Named, Follows, headless, head, same, marked, markedHead}
+
+-- ---- what holds of a slot, by the tests of its tag and its value
+
+by-tests : (P : Slot → Type 0) (value : ℕ) (tag0 tag1 tag2 none low : Bool) → P Unused → P (Constant (signedOf value)) → P Bad → (tag2 ≡ true → low ≡ true → P (Variable value)) → P (cond tag0 (cond none Unused Bad) (cond tag1 (Constant (signedOf value)) (cond tag2 (cond low (Variable value) Bad) Bad)))
+by-tests P value true tag1 tag2 true low u c b v = u
+by-tests P value true tag1 tag2 false low u c b v = b
+by-tests P value false true tag2 none low u c b v = c
+by-tests P value false false true none true u c b v = v refl refl
+by-tests P value false false true none false u c b v = b
+by-tests P value false false false none low u c b v = b
+
+by-slot : (P : Slot → Type 0) (tag value : ℕ) → P Unused → P (Constant (signedOf value)) → P Bad → (eqb tag 2 ≡ true → ltb value 16 ≡ true → P (Variable value)) → P (slotBy tag value)
+unfolding slotBy
+by-slot P tag value = by-tests P value (eqb tag 0) (eqb tag 1) (eqb tag 2) (eqb value 0) (ltb value 16)
 
 -- ---- a slot's variable has a mark
 
@@ -25,21 +40,9 @@ Small (Constant z) = Unit {0}
 Small (Variable v) = v < 16
 Small Bad = Unit {0}
 
-by-tests : (tag0 tag1 tag2 none low : Bool) (value : ℕ) → (low ≡ true → value < 16) → Small (cond tag0 (cond none Unused Bad) (cond tag1 (Constant (signedOf value)) (cond tag2 (cond low (Variable value) Bad) Bad)))
-by-tests true tag1 tag2 true low value h = tt
-by-tests true tag1 tag2 false low value h = tt
-by-tests false true tag2 none low value h = tt
-by-tests false false true none true value h = h refl
-by-tests false false true none false value h = tt
-by-tests false false false none low value h = tt
-
-small : (tag value : ℕ) → Small (slotBy tag value)
-unfolding slotBy
-small tag value = by-tests (eqb tag 0) (eqb tag 1) (eqb tag 2) (eqb value 0) (ltb value 16) value (ltb-true value 16)
-
 pub variable-small : (t : List ℕ) (p : ℕ) {s : Slot} {v : ℕ} → s ≡ slotAt t p → s ≡ Variable v → v < 16
 unfolding slotAt
-variable-small t p e d = subst Small (sym e ∙ d) (small (getD t p 0) (u32At t (p + 1)))
+variable-small t p e d = let value = u32At t (p + 1) in subst Small (sym e ∙ d) (by-slot Small (getD t p 0) value tt tt tt (λ tag low. ltb-true value 16 low))
 
 -- ---- marking
 
@@ -62,7 +65,7 @@ marked-has (Variable w) l v h = set-has l w v (eqb w v) refl h
 marked-has Bad l v h = refl
 
 in-order : (a b c d l : Bool) → (d || (c || (b || (a || l)))) ≡ (l || (a || (b || (c || d))))
-in-order a b c d l = rw (or-comm d _, or-comm c _, or-comm b _, or-comm a l) (simp or-assoc)
+in-order a b c d l = rw (or-comm d (c || (b || (a || l))), or-comm c (b || (a || l)), or-comm b (a || l), or-comm a l) (simp or-assoc)
 
 module _ (t : List ℕ) (p : ℕ) (l : List Bool) where
   head-sized : length (markedHead t p l) ≡ length l
@@ -128,6 +131,42 @@ module _ {t : List ℕ} {at : ℕ} {before after : RuleShape} {named : List Bool
 
 -- ---- looking up
 
-pub looked-up : {t : List ℕ} {rule : RuleShape} {named : List Bool} → Named t rule named → (p : ℕ) {s : Slot} {v : ℕ} → s ≡ slotAt t p → s ≡ Variable v → not (getD named v false) ≡ strangeSlot t (rule .start) (rule .heads) (slotAt t p)
-unfolding strangeSlot
-looked-up {t = t} w p {v = v} e d = rw (sym e ∙ d) (ap not (w .marks v (variable-small t p e d)))
+module _ {t : List ℕ} {rule : RuleShape} {named : List Bool} (w : Named t rule named) where
+  abbrev strangeBy : ℕ → ℕ → Bool
+  strangeBy tag value = strangeSlot t (rule .start) (rule .heads) (slotBy tag value)
+
+  no-variable : (tag value : ℕ) → (eqb tag 2 && ltb value 16) ≡ false → false ≡ strangeBy tag value
+  unfolding strangeSlot
+  no-variable tag value n =
+      by-slot (λ (s : Slot). false ≡ strangeSlot t (rule .start) (rule .heads) s) tag value refl refl refl (λ e d. absurd (true≢false (rw (e, d) at n)))
+
+  variable : (tag value : ℕ) (b : Bool) → getD named (value % 16) false ≡ b → eqb tag 2 ≡ true → ltb value 16 ≡ true → not b ≡ strangeBy tag value
+  unfolding slotBy strangeSlot
+  variable tag value b m e d =
+      let low : value < 16 = ltb-true value 16 d in
+      let own : value % 16 ≡ value = mod-eq-of-lt low in
+      rw (eqb-true tag 2 e, d) (ap not (sym m ∙ ap (λ (v : ℕ). getD named v false) own ∙ w .marks value low))
+
+  by-mark : (tag value : ℕ) (b x y : Bool) → getD named (value % 16) false ≡ b → eqb tag 2 ≡ x → ltb value 16 ≡ y → (x && (y && not b)) ≡ strangeBy tag value
+  by-mark tag value b true true m e d = variable tag value b m e d
+  by-mark tag value b true false m e d = no-variable tag value (rw (e, d))
+  by-mark tag value b false y m e d = no-variable tag value (rw e)
+
+  never : (x y : Bool) → (x && (y && false)) ≡ false
+  never true true = refl
+  never true false = refl
+  never false y = refl
+
+  module _ (p : ℕ) {value : ℕ} (e : value ≡ u32At t (p + 1)) where
+    -- the three answers: the variable is marked; none is so high; what the tag says
+    pub is-marked : getD named (value % 16) false ≡ true → false ≡ strangeSlot t (rule .start) (rule .heads) (slotAt t p)
+    unfolding slotAt
+    is-marked m = rw (← e) (sym (never (eqb (getD t p 0) 2) (ltb value 16)) ∙ by-mark (getD t p 0) value true _ _ m refl refl)
+
+    pub too-high : 16 ≤ value → false ≡ strangeSlot t (rule .start) (rule .heads) (slotAt t p)
+    unfolding slotAt
+    too-high h = rw (← e) (no-variable (getD t p 0) value (rw (le-ltb value 16 h) (and-false (eqb (getD t p 0) 2))))
+
+    pub by-tag : getD named (value % 16) false ≡ false → value < 16 → eqb (getD t p 0) 2 ≡ strangeSlot t (rule .start) (rule .heads) (slotAt t p)
+    unfolding slotAt
+    by-tag m h = rw (← e) (sym (and-true (eqb (getD t p 0) 2)) ∙ by-mark (getD t p 0) value false _ true m refl (lt-ltb value 16 h))

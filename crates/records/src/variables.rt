@@ -64,20 +64,23 @@ pub fn mark(t: &[u8], at: usize, before: RuleShape, after: RuleShape, named: &mu
     }
 }
 
-// ---- what is looked up: `rule` is the one whose heads are marked
+// ---- what is looked up: `rule` is the one whose heads are marked, and only the contracts speak of it
 
-// Whether the slot at p is a variable that no head has.
+// Whether the slot at p is a variable that no head has. The mark is read before it is known whether the slot is a variable, so that
+// no jump depends on it: such a jump is often guessed wrong.
 fn strange_at(t: &[u8], rule: RuleShape, named: &[bool; 16], p: usize) -> bool
     requires { ⌜ Named (now t) rule (now named) × (p + 5 ≤ length (now t)) ⌝ }
     ensures { λ r. ⌜ r ≡ strangeSlot (now (t .entry)) (rule .start) (rule .heads) (slotAt (now (t .entry)) p) ⌝ }
 {
-    let slot = slots::slot_at(t, p);
-    match slot {
-        Slot::Unused => false,
-        Slot::Constant(_) => false,
-        Slot::Variable(v) => !named[v as usize],
-        Slot::Bad => false,
+    let value = wire::u32_within(t, p + 1);
+    let at = (value % 16) as usize;
+    if named[at] {
+        return false;
     }
+    if 16 <= value {
+        return false;
+    }
+    t[p] == 2
 }
 
 fn strange_expression(t: &[u8], rule: RuleShape, named: &[bool; 16], p: usize) -> bool
