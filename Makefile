@@ -1,5 +1,5 @@
 # Nadhirukh: a proved engine for Constraint Handling Rules over whole numbers.
-.PHONY: demo test soak lib memory swi fmt
+.PHONY: demo test soak lib memory bench swi fmt
 
 # Prove and build what there is, and run the main job on an example.
 demo:
@@ -23,6 +23,10 @@ lib:
 # The machine stack of the calls, over the stored cases, and the size of their code.
 memory:
 	@scripts/memory
+
+# The time of the calls against the plain engine of host/, as ratios in one process.
+bench:
+	@scripts/bench
 
 # Every example on SWI-Prolog's CHR library and on the proved engine; the last line is 'N passed, M failed'.
 swi:
