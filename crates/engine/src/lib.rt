@@ -7,7 +7,7 @@ use model::StepLimit;
 use model::Verdict;
 ghost use mathlib.Core.Path.{_≡_};
 ghost use lib.ListN.{replicate};
-ghost use Rattle.model.specs.Calls.{refusal, outputOf, runOf};
+ghost use Rattle.model.specs.Calls.{outputOf, runOf};
 ghost use Rattle.model.specs.Goal.{goalOf};
 ghost use Rattle.model.specs.Run.{run};
 ghost use Rattle.model.specs.Table.{tableOf};
@@ -28,20 +28,6 @@ pub struct Made {
 pub struct Body {
     pub ok: bool,
     pub entries: [Entry; 4],
-}
-
-// "Numbers 16 and above have all four counts 0."
-fn refused(number: u8, place: u32) -> CallResult
-    ensures { λ r. ⌜ r ≡ refusal number place ⌝ }
-{
-    CallResult {
-        number: number as u32,
-        place: place,
-        steps: 0,
-        firings: 0,
-        identifiers: 0,
-        stored: 0,
-    }
 }
 
 fn no_starts() -> [u16; 33]
@@ -95,18 +81,18 @@ pub fn run(t: &[u8], goal: &[u8], limit: u32, answer: &mut [u8]) -> CallResult
     let reading = table::read(t);
     let verdict = reading.verdict;
     match verdict {
-        Verdict::Refused(n, p) => refused(n, p as u32),
+        Verdict::Refused(n, p) => table::refusal(n, p as u32),
         Verdict::Good => {
             let symbols = reading.symbols;
             let judged = goal::check_goal(t, symbols, goal);
             match judged {
-                Verdict::Refused(n, p) => refused(n, p as u32),
+                Verdict::Refused(n, p) => table::refusal(n, p as u32),
                 Verdict::Good => {
                     if StepLimit::MAX < limit {
-                        return refused(35, 0);
+                        return table::refusal(35, 0);
                     }
                     if answer.len() < Answer::MIN {
-                        return refused(36, 0);
+                        return table::refusal(36, 0);
                     }
                     run_passed(t, reading, goal, limit, answer)
                 }

@@ -105,7 +105,8 @@ pub fn check(t: &[u8]) -> CallResult
     }
 }
 
-fn refusal(number: u8, place: u32) -> CallResult
+// "Numbers 16 and above have all four counts 0."
+pub fn refusal(number: u8, place: u32) -> CallResult
     ensures { λ r. ⌜ r ≡ refusal number place ⌝ }
 {
     CallResult {

@@ -8,7 +8,6 @@ ghost use lib.Dec.{eqb};
 ghost use lib.ListN.{length};
 ghost use Rattle.model.specs.Reading.{readOf};
 ghost use Rattle.model.specs.Table.{tableOf, ruleOf};
-ghost use Rattle.model.specs.Calls.{refusal};
 ghost use Rattle.weigh.specs.Views.{Known, Lies, firstOf};
 ghost use Rattle.weights.specs.Search.{mostRaises, raiseOf, soughtAs, searchFrom};
 ghost use Rattle.weights.specs.Find.{Begins, Gives, findCount, findOf};
@@ -90,20 +89,6 @@ fn search(table: &[u8], reading: Reading, weights: &mut [u8]) -> First
     rules::first_heavy(table, weights, reading)
 }
 
-// Six numbers with no counts.
-fn result(number: u32, place: u32) -> CallResult
-    ensures { λ r. ⌜ r ≡ refusal number place ⌝ }
-{
-    CallResult {
-        number: number,
-        place: place,
-        steps: 0,
-        firings: 0,
-        identifiers: 0,
-        stored: 0,
-    }
-}
-
 fn write(found: &[u8], weights: &mut [u8])
     requires { ⌜ length (now found) ≡ length (now weights) ⌝ }
     ensures { λ _. ⌜ now (weights .exit) ≡ now (found .entry) ⌝ }
@@ -119,9 +104,9 @@ fn find_from(table: &[u8], reading: Reading, own: &mut [u8], weights: &mut [u8])
     match search(table, reading, own) {
         First::Nothing => {
             write(own, weights);
-            result(0, 0)
+            table::refusal(0, 0)
         }
-        First::At(rule) => result(42, rule),
+        First::At(rule) => table::refusal(42, rule),
     }
 }
 
@@ -132,7 +117,7 @@ fn find_count(table: &[u8], reading: Reading, weights: &mut [u8]) -> CallResult
 {
     let symbols = reading.symbols as usize;
     if weights.len() != symbols {
-        return result(40, 0);
+        return table::refusal(40, 0);
     }
     let mut own = [1u8; 32];
     find_from(table, reading, &mut own[0..symbols], weights)
@@ -147,6 +132,6 @@ pub fn find_weights(table: &[u8], weights: &mut [u8]) -> CallResult
     let verdict = reading.verdict;
     match verdict {
         Verdict::Good => find_count(table, reading, weights),
-        Verdict::Refused(n, p) => result(n as u32, p as u32),
+        Verdict::Refused(n, p) => table::refusal(n, p as u32),
     }
 }

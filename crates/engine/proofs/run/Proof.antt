@@ -12,11 +12,11 @@ read-requires c κs = search needs
 enum-known-verdict : tie.Need-enum-known-verdict
 enum-known-verdict c = search needs
 
-cast-refused : tie.Need-cast-refused
-cast-refused c = omega (arith, table-near _ (c .before .before .before .read .ensures) (c .before .verdict .given .1))
+cast-refusal : tie.Need-cast-refusal
+cast-refusal c = omega (arith, table-near _ (c .before .before .before .read .ensures) (c .before .verdict .given .1))
 
-refused-requires : tie.Need-refused-requires
-refused-requires c κs = search needs
+refusal-requires : tie.Need-refusal-requires
+refusal-requires c κs = search needs
 
 enum-told : tie.Need-enum-told
 enum-told c = search needs
@@ -27,35 +27,35 @@ check-goal-requires c κs = search needs
 enum-known-judged : tie.Need-enum-known-judged
 enum-known-judged c = search needs
 
-cast-refused-2 : tie.Need-cast-refused-2
-cast-refused-2 c = omega (arith, goal-near _ _ _ (c .before .before .before .check-goal .ensures) (c .before .judged .given .1))
+cast-refusal-2 : tie.Need-cast-refusal-2
+cast-refusal-2 c = omega (arith, goal-near _ _ _ (c .before .before .before .check-goal .ensures) (c .before .judged .given .1))
 
-refused-requires-2 : tie.Need-refused-requires-2
-refused-requires-2 c κs = search needs
+refusal-requires-2 : tie.Need-refusal-requires-2
+refusal-requires-2 c κs = search needs
 
 enum-told-2 : tie.Need-enum-told-2
 enum-told-2 c = search needs
 
-refused-requires-3 : tie.Need-refused-requires-3
-refused-requires-3 c κs = search needs
+refusal-requires-3 : tie.Need-refusal-requires-3
+refusal-requires-3 c κs = search needs
 
 returns : tie.Need-returns
-returns c = limit-refused _ _ _ _ (c .before .before .before .before .before .before .before .read .ensures) (c .before .before .before .before .before .enum-told .given .1) (c .before .before .before .before .check-goal .ensures) (c .before .before .enum-told2 .given .1) (c .before .if1 .taken) (c .refused3 .ensures)
+returns c = limit-refused _ _ _ _ (c .before .before .before .before .before .before .before .read .ensures) (c .before .before .before .before .before .enum-told .given .1) (c .before .before .before .before .check-goal .ensures) (c .before .before .enum-told2 .given .1) (c .before .if1 .taken) (c .refusal3 .ensures)
 
-refused-requires-4 : tie.Need-refused-requires-4
-refused-requires-4 c κs = search needs
+refusal-requires-4 : tie.Need-refusal-requires-4
+refusal-requires-4 c κs = search needs
 
 returns-2 : tie.Need-returns-2
-returns-2 c = room-refused _ _ _ _ (c .before .before .before .before .before .before .before .before .read .ensures) (c .before .before .before .before .before .before .enum-told .given .1) (c .before .before .before .before .before .check-goal .ensures) (c .before .before .before .enum-told2 .given .1) (c .before .before .if1 .left) (c .before .if2 .taken) (c .refused4 .ensures)
+returns-2 c = room-refused _ _ _ _ (c .before .before .before .before .before .before .before .before .read .ensures) (c .before .before .before .before .before .before .enum-told .given .1) (c .before .before .before .before .before .check-goal .ensures) (c .before .before .before .enum-told2 .given .1) (c .before .before .if1 .left) (c .before .if2 .taken) (c .refusal4 .ensures)
 
 run-passed-requires : tie.Need-run-passed-requires
 run-passed-requires c κs = passed _ _ _ _ (c .before .before .before .before .before .before .before .before .read .ensures) (c .before .before .before .before .before .before .enum-told .given .1) (c .before .before .before .before .before .check-goal .ensures) (c .before .before .before .enum-told2 .given .1) (c .before .before .if1 .left) (c .before .if2 .left)
 
 returns-3 : tie.Need-returns-3
-returns-3 c = table-refused _ _ _ _ (c .before .before .before .before .read .ensures) (c .before .before .verdict .given .1) (c .refused .ensures)
+returns-3 c = table-refused _ _ _ _ (c .before .before .before .before .read .ensures) (c .before .before .verdict .given .1) (c .refusal .ensures)
 
 returns-4 : tie.Need-returns-4
-returns-4 c = goal-refused _ _ _ _ (c .before .before .before .before .before .before .before .read .ensures) (c .before .before .before .before .before .enum-told .given .1) (c .before .before .before .before .check-goal .ensures) (c .before .before .judged .given .1) (c .refused2 .ensures)
+returns-4 c = goal-refused _ _ _ _ (c .before .before .before .before .before .before .before .read .ensures) (c .before .before .before .before .before .enum-told .given .1) (c .before .before .before .before .check-goal .ensures) (c .before .before .judged .given .1) (c .refusal2 .ensures)
 
 same-length : tie.Need-same-length
 same-length c = search needs
@@ -69,17 +69,17 @@ run-spec =
     (tie.spec
     read-requires
     enum-known-verdict
-    cast-refused
-    refused-requires
+    cast-refusal
+    refusal-requires
     enum-told
     check-goal-requires
     enum-known-judged
-    cast-refused-2
-    refused-requires-2
+    cast-refusal-2
+    refusal-requires-2
     enum-told-2
-    refused-requires-3
+    refusal-requires-3
     returns
-    refused-requires-4
+    refusal-requires-4
     returns-2
     run-passed-requires
     returns-3

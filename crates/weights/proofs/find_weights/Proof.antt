@@ -15,7 +15,6 @@ find-weights-spec =
     (λ c. search needs)
     (λ c κs. search needs)
     (λ c. search needs)
-    (λ c. search needs)
     (λ c. omega (arith, refusal-small _ _ _ (verdict-read _ (c .before .before .before .read .ensures) (c .before .verdict .given .1)) .near))
     (λ c κs. search needs)
     (λ c. search needs)
