@@ -123,18 +123,25 @@ static void check(struct stored_case c)
     printf("\n");
 }
 
+/* Prints bytes in hexadecimal behind a space, if there are any. */
+static void print_bytes(const uint8_t *bytes, size_t len)
+{
+    size_t i;
+    if (0 < len)
+        printf(" ");
+    for (i = 0; i < len; i++)
+        printf("%02x", bytes[i]);
+}
+
 /* Prints the records that a run wrote, and whether all other bytes are as they were. */
 static void print_answer(struct lent answer, const struct words *result)
 {
     uint32_t number = result->row[NADHIRUKH_RESULT];
     size_t written = number == 0 ? (size_t)NADHIRUKH_STORED_FACT * result->row[2 * NADHIRUKH_RESULT - 1] : 0;
-    size_t i;
+    size_t i = written;
     if (answer.len < written)
         fail("more facts are stored than the answer has room for");
-    if (0 < written)
-        printf(" ");
-    for (i = 0; i < written; i++)
-        printf("%02x", answer.bytes[i]);
+    print_bytes(answer.bytes, written);
     while (i < answer.len && answer.bytes[i] == FILL)
         i++;
     printf(i == answer.len ? " keeps" : " changed");
@@ -178,6 +185,25 @@ static void weigh(struct stored_case c)
     printf("\n");
 }
 
+/* The buffer holds the case's weights before; the line ends with what it holds afterwards. */
+static void find_weights(struct stored_case c)
+{
+    struct lent table = lend(c.table, c.table_len);
+    struct lent weights = lend(c.weights, c.weights_len);
+    struct words result;
+    uint32_t number;
+    stale(&result);
+    number = nadhirukh_find_weights(table.bytes, table.len, weights.bytes, weights.len, result.row + NADHIRUKH_RESULT);
+    printf("F");
+    print_result(&result, number);
+    print_bytes(weights.bytes, weights.len);
+    if (number != 0 && memcmp(weights.bytes, c.weights, c.weights_len) != 0)
+        fail("weights were written, and none were found");
+    take_back_kept(table, c.table);
+    take_back(weights);
+    printf("\n");
+}
+
 static void run_case(struct stored_case c)
 {
     switch (c.kind) {
@@ -189,6 +215,9 @@ static void run_case(struct stored_case c)
         break;
     case 'W':
         weigh(c);
+        break;
+    case 'F':
+        find_weights(c);
         break;
     default:
         fail("no such kind");

@@ -4,6 +4,7 @@
 pub mod corners;
 pub mod damage;
 pub mod edges;
+pub mod finding;
 pub mod goals;
 pub mod joins;
 pub mod long;
@@ -27,6 +28,7 @@ pub enum Call {
     Check,
     Run,
     Weigh,
+    FindWeights,
 }
 
 /// A call's input; what the call does not take is empty or 0.
@@ -35,6 +37,7 @@ pub struct Case {
     pub call: Call,
     pub table: Vec<u8>,
     pub goal: Vec<u8>,
+    /// The weights to weigh with, or what the buffer for those to be found holds before the call.
     pub weights: Vec<u8>,
     pub limit: u32,
     pub answer_len: usize,
@@ -70,8 +73,9 @@ pub fn any_case(seed: u64) -> Case {
         0..=45 => check_case(&mut random),
         46..=51 => edge_case(&mut random),
         52..=70 => refused_run_case(&mut random),
-        71..=132 => run_case(&mut random),
-        133..=170 => weigh_case(&mut random),
+        71..=124 => run_case(&mut random),
+        125..=150 => weigh_case(&mut random),
+        151..=170 => finding::case(&mut random),
         171..=198 => scene_case(&mut random),
         _ => long::case(&mut random),
     }
@@ -240,6 +244,18 @@ impl Case {
             weights: Vec::new(),
             limit,
             answer_len,
+        }
+    }
+
+    /// A case that looks for weights, with what the buffer for them holds before.
+    pub fn find_weights(table: Vec<u8>, buffer: Vec<u8>) -> Case {
+        Case {
+            call: Call::FindWeights,
+            table,
+            goal: Vec::new(),
+            weights: buffer,
+            limit: 0,
+            answer_len: 0,
         }
     }
 }

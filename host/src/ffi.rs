@@ -32,6 +32,13 @@ extern "C" {
         result: *mut u32,
         bound: *mut u32,
     ) -> u32;
+    fn nadhirukh_find_weights(
+        table: *const u8,
+        table_len: usize,
+        weights: *mut u8,
+        weights_len: usize,
+        result: *mut u32,
+    ) -> u32;
 }
 
 /// Checks a table: the number returned, and the result.
@@ -80,6 +87,20 @@ pub fn weigh(
     }
 }
 
+/// Looks for weights: the number returned, and the result.
+pub fn find_weights(table: &[u8], weights: &mut [u8], result: &mut [u32; 6]) -> u32 {
+    // SAFETY: slices and arrays are valid for their lengths and do not overlap.
+    unsafe {
+        nadhirukh_find_weights(
+            table.as_ptr(),
+            table.len(),
+            weights.as_mut_ptr(),
+            weights.len(),
+            result.as_mut_ptr(),
+        )
+    }
+}
+
 /// A buffer between guard bytes.
 struct Guarded {
     bytes: Vec<u8>,
@@ -111,53 +132,72 @@ impl Guarded {
     }
 }
 
+/// What a case lends to a call: buffers between guard bytes. The words around the result and the
+/// bound are guards too.
+struct Lent {
+    table: Guarded,
+    goal: Guarded,
+    weights: Guarded,
+    answer: Guarded,
+    result: [[u32; 6]; 3],
+    bound: [[u32; 2]; 3],
+}
+
+impl Lent {
+    fn new(case: &Case) -> Lent {
+        Lent {
+            table: Guarded::new(&case.table),
+            goal: Guarded::new(&case.goal),
+            weights: Guarded::new(&case.weights),
+            answer: Guarded::new(&vec![FILL; case.answer_len]),
+            result: [[STALE; 6]; 3],
+            bound: [[STALE; 2]; 3],
+        }
+    }
+
+    /// Makes the call: the number returned.
+    fn call(&mut self, call: Call, limit: u32) -> u32 {
+        let (table, goal) = (self.table.lent(), self.goal.lent());
+        let (result, bound) = (&mut self.result[1], &mut self.bound[1]);
+        match call {
+            Call::Check => check(table, result),
+            Call::Run => run(table, goal, limit, self.answer.lent_mut(), result),
+            Call::Weigh => weigh(table, self.weights.lent(), goal, result, bound),
+            Call::FindWeights => find_weights(table, self.weights.lent_mut(), result),
+        }
+    }
+
+    /// What a call changed that it may not, if there is such a thing.
+    fn fault(&self, case: &Case) -> Result<(), String> {
+        let kept = self.table.holds(&case.table) && self.goal.holds(&case.goal);
+        let reads_weights = case.call != Call::FindWeights;
+        let kept = kept && (!reads_weights || self.weights.holds(&case.weights));
+        require(kept, "a buffer that is only read was changed")?;
+        let around =
+            self.answer.holds(self.answer.lent()) && self.weights.holds(self.weights.lent());
+        require(around, "bytes around a buffer were changed")?;
+        let words = guards_kept(&self.result, &self.bound);
+        require(words, "words around a result were changed")
+    }
+}
+
 /// The library's verdict on a case, or what the call did that no call may do.
 pub fn verdict(case: &Case) -> Result<Verdict, String> {
-    let table = Guarded::new(&case.table);
-    let goal = Guarded::new(&case.goal);
-    let weights = Guarded::new(&case.weights);
-    let mut answer = Guarded::new(&vec![FILL; case.answer_len]);
-    // The words around the result and the bound are guards too.
-    let mut result = [[STALE; 6]; 3];
-    let mut bound = [[STALE; 2]; 3];
-    let number = match case.call {
-        Call::Check => check(table.lent(), &mut result[1]),
-        Call::Run => run(
-            table.lent(),
-            goal.lent(),
-            case.limit,
-            answer.lent_mut(),
-            &mut result[1],
-        ),
-        Call::Weigh => weigh(
-            table.lent(),
-            weights.lent(),
-            goal.lent(),
-            &mut result[1],
-            &mut bound[1],
-        ),
-    };
-    let lent = answer.lent().to_vec();
-    let kept = table.holds(&case.table) && goal.holds(&case.goal) && weights.holds(&case.weights);
-    require(kept, "a buffer that is only read was changed")?;
-    require(answer.holds(&lent), "bytes around the answer were changed")?;
+    let mut lent = Lent::new(case);
+    let number = lent.call(case.call, case.limit);
+    lent.fault(case)?;
     require(
-        guards_kept(&result, &bound),
-        "words around a result were changed",
-    )?;
-    require(
-        number == result[1][0],
+        number == lent.result[1][0],
         "the number returned is not the result's",
     )?;
-    Ok(Verdict {
-        outcome: Outcome::from(result[1]),
-        bound: if case.call == Call::Weigh {
-            bound[1]
-        } else {
-            [0; 2]
-        },
-        answer: lent,
-    })
+    let mut verdict = Verdict::of_check(Outcome::from(lent.result[1]));
+    match case.call {
+        Call::Check => {}
+        Call::Run => verdict.answer = lent.answer.lent().to_vec(),
+        Call::Weigh => verdict.bound = lent.bound[1],
+        Call::FindWeights => verdict.weights = lent.weights.lent().to_vec(),
+    }
+    Ok(verdict)
 }
 
 /// Whether the words before and after result and bound are as they were.

@@ -6,6 +6,8 @@ pub const ENDINGS: [u32; 8] = [0, 1, 2, 3, 4, 5, 6, 7];
 pub const REFUSALS: [u32; 16] = [
     16, 17, 18, 19, 20, 21, 22, 23, 32, 33, 34, 35, 36, 40, 41, 42,
 ];
+/// The numbers that a search for weights can give, found first.
+pub const FINDINGS: [u32; 11] = [0, 16, 17, 18, 19, 20, 21, 22, 23, 40, 42];
 
 /// A result: number, place and four counts.
 #[derive(Clone, Copy, Debug, Default, PartialEq, Eq)]

@@ -1,9 +1,10 @@
 //! The form in which cases are stored and given to a program that calls the proved library, and
 //! the line that the program has to print for each.
 //!
-//! A case is a kind byte (`C`, `R` or `W`), five little-endian words (lengths of table, goal and
-//! weights, step limit, length of the answer buffer), then table, goal and weights. Behind the
-//! last case stands one byte `.`. The answer buffer is full of 0xA5 before each run.
+//! A case is a kind byte (`C`, `R`, `W` or `F`), five little-endian words (lengths of table, goal
+//! and weights, step limit, length of the answer buffer), then table, goal and weights. Behind the
+//! last case stands one byte `.`. The answer buffer is full of 0xA5 before each run; where weights
+//! are looked for, those of the case are what the buffer holds before.
 
 use crate::cases::{Call, Case};
 use crate::format::STORED_RECORD_LEN;
@@ -39,6 +40,7 @@ pub fn line(case: &Case, verdict: &Verdict) -> String {
         Call::Check => {}
         Call::Run => words.extend(answer_words(verdict)),
         Call::Weigh => words.extend(verdict.bound.iter().map(u32::to_string)),
+        Call::FindWeights => words.extend(bytes_word(&verdict.weights)),
     }
     words.join(" ")
 }
@@ -49,6 +51,7 @@ fn letter(call: Call) -> char {
         Call::Check => 'C',
         Call::Run => 'R',
         Call::Weigh => 'W',
+        Call::FindWeights => 'F',
     }
 }
 
@@ -61,12 +64,14 @@ fn answer_words(verdict: &Verdict) -> Vec<String> {
     };
     let (records, behind) = verdict.answer.split_at(stored * STORED_RECORD_LEN);
     assert!(behind.iter().all(|byte| *byte == FILL));
-    let mut words = Vec::new();
-    if stored > 0 {
-        words.push(hexadecimal(records));
-    }
+    let mut words = Vec::from_iter(bytes_word(records));
     words.push("keeps".to_string());
     words
+}
+
+/// Bytes in hexadecimal, if there are any.
+fn bytes_word(bytes: &[u8]) -> Option<String> {
+    (!bytes.is_empty()).then(|| hexadecimal(bytes))
 }
 
 fn hexadecimal(bytes: &[u8]) -> String {

@@ -1,4 +1,4 @@
-//! Everything that a call gives back for a case: numbers and every byte of the answer buffer.
+//! Everything that a call gives back for a case: numbers and every byte of the buffers it writes.
 
 use crate::cases::{Call, Case};
 use crate::outcome::{Outcome, Weighing};
@@ -15,6 +15,8 @@ pub struct Verdict {
     pub bound: [u32; 2],
     /// The whole answer buffer after the call; empty for calls that do not run.
     pub answer: Vec<u8>,
+    /// The whole buffer of weights after a call that looks for them; empty for other calls.
+    pub weights: Vec<u8>,
 }
 
 impl Verdict {
@@ -24,15 +26,15 @@ impl Verdict {
             outcome,
             bound: [0; 2],
             answer: Vec::new(),
+            weights: Vec::new(),
         }
     }
 
     /// The verdict of a weighing.
     pub fn of_weighing(weighing: Weighing) -> Verdict {
         Verdict {
-            outcome: weighing.outcome,
             bound: [weighing.weight, weighing.bound],
-            answer: Vec::new(),
+            ..Verdict::of_check(weighing.outcome)
         }
     }
 
@@ -41,9 +43,18 @@ impl Verdict {
         let mut answer = vec![FILL; case.answer_len];
         let outcome = run(&case.table, &case.goal, case.limit, &mut answer);
         Verdict {
-            outcome,
-            bound: [0; 2],
             answer,
+            ..Verdict::of_check(outcome)
+        }
+    }
+
+    /// The verdict of a search for weights by some engine, in the buffer that the case lends.
+    pub fn of_find(case: &Case, find: impl Fn(&[u8], &mut [u8]) -> Outcome) -> Verdict {
+        let mut weights = case.weights.clone();
+        let outcome = find(&case.table, &mut weights);
+        Verdict {
+            weights,
+            ..Verdict::of_check(outcome)
         }
     }
 }
@@ -56,5 +67,6 @@ pub fn reference(case: &Case) -> Verdict {
         Call::Weigh => {
             Verdict::of_weighing(reference::weigh(&case.table, &case.weights, &case.goal))
         }
+        Call::FindWeights => Verdict::of_find(case, reference::find_weights),
     }
 }

@@ -48,15 +48,18 @@ edited() {
     program=(bash -c '"${@:2}" | sed "$1"' - "$1" "${replay[@]}")
 }
 
-# Agreement says something only if a difference is found: one digit of an answer, a bound, a line too few, a number that is missing.
-finds "5 passed, 0 failed" "$few" "${replay[@]}"
+# Agreement says something only if a difference is found: one digit of an answer, a bound, a weight, a line too few, a number that is
+# missing.
+finds "6 passed, 0 failed" "$few" "${replay[@]}"
 edited '/^R 0 /s/. keeps$/x keeps/'
-finds "4 passed, 1 failed" "$few" "${program[@]}"
+finds "5 passed, 1 failed" "$few" "${program[@]}"
 edited '/^W 0 /s/[0-9]*$/1/'
-finds "4 passed, 1 failed" "$few" "${program[@]}"
+finds "5 passed, 1 failed" "$few" "${program[@]}"
+edited '/^F 0 /s/.$/0/'
+finds "4 passed, 2 failed" "$few" "${program[@]}"
 edited '/^C 23 /d'
-finds "1 passed, 4 failed" "$few" "${program[@]}"
-finds "4 passed, 1 failed" 20 "${replay[@]}"
+finds "1 passed, 5 failed" "$few" "${program[@]}"
+finds "5 passed, 1 failed" 60 "${replay[@]}"
 
 echo "seed $seed"
 compare "$cases" "${replay[@]}" | tee "$made/log"

@@ -17,7 +17,7 @@ fn plain_verdict(case: &Case) -> Option<Verdict> {
     match case.call {
         Call::Check => Some(Verdict::of_check(plain::check(&case.table))),
         Call::Run => Some(Verdict::of_run(case, plain::run)),
-        Call::Weigh => None,
+        Call::Weigh | Call::FindWeights => None,
     }
 }
 

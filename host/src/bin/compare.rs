@@ -6,7 +6,8 @@
 //! bytes, and to see that no call touches what it may not.
 //!
 //! Prints how far it is, how often each number occurred and, last, `N passed, M failed` over what
-//! it tested: the three calls, the tables at every edge, and that every number occurred.
+//! it tested: the four calls, the tables at every edge, and that every number occurred, of the search
+//! for weights every one that it can give.
 
 use std::env;
 use std::fs::{self, File};
@@ -18,8 +19,8 @@ use std::sync::Mutex;
 use std::thread;
 use std::time::{Duration, Instant};
 
-use nadhirukh_host::cases::{any_case, edges, Call, Case};
-use nadhirukh_host::outcome::{ENDINGS, REFUSALS};
+use nadhirukh_host::cases::{any_case, edges, finding, Call, Case};
+use nadhirukh_host::outcome::{ENDINGS, FINDINGS, REFUSALS};
 use nadhirukh_host::{stored, verdict};
 
 /// Random cases in a batch.
@@ -29,8 +30,8 @@ const PROGRESS: Duration = Duration::from_secs(10);
 /// How many differences are shown.
 const SHOWN: usize = 20;
 
-const GROUPS: [&str; 4] = ["check", "run", "weigh", "edges"];
-const EDGES: usize = 3;
+const GROUPS: [&str; 5] = ["check", "run", "weigh", "find", "edges"];
+const EDGES: usize = 4;
 
 /// What is asked for.
 struct Request {
@@ -51,8 +52,9 @@ struct Sample {
 struct Tally {
     cases: [u64; GROUPS.len()],
     differences: [u64; GROUPS.len()],
-    /// How often each number occurred.
+    /// How often each number occurred, and how often in a search for weights.
     numbers: [u64; 43],
+    findings: [u64; 43],
     /// What the first differences are.
     complaints: Vec<String>,
 }
@@ -103,15 +105,17 @@ impl Request {
     }
 }
 
-/// The tables at every edge, the longest ones included.
+/// The tables at every edge, the longest ones included, checked and searched for weights; and the
+/// longest searches.
 fn edge_samples() -> Vec<Sample> {
     let tables = edges::tables().into_iter().chain(edges::longest_tables(1));
-    let sample = |(at, table)| Sample {
+    let cases = tables.map(Case::check).chain(finding::edge_cases());
+    let sample = |(at, case)| Sample {
         group: EDGES,
         seed: at as u64,
-        case: Case::check(table),
+        case,
     };
-    tables.enumerate().map(sample).collect()
+    cases.enumerate().map(sample).collect()
 }
 
 fn random_sample(seed: u64) -> Sample {
@@ -120,6 +124,7 @@ fn random_sample(seed: u64) -> Sample {
         Call::Check => 0,
         Call::Run => 1,
         Call::Weigh => 2,
+        Call::FindWeights => 3,
     };
     Sample { group, seed, case }
 }
@@ -166,8 +171,7 @@ fn compare(batch: &[Sample], lines: &[String]) -> Tally {
     let mut lines = lines.iter();
     for sample in batch {
         let expected = verdict::reference(&sample.case);
-        tally.cases[sample.group] += 1;
-        tally.numbers[expected.outcome.number as usize] += 1;
+        tally.count(sample, expected.outcome.number as usize);
         let expected = stored::line(&sample.case, &expected);
         let line = lines.next().map_or("nothing", String::as_str);
         if line != expected {
@@ -187,6 +191,7 @@ impl Tally {
             cases: [0; GROUPS.len()],
             differences: [0; GROUPS.len()],
             numbers: [0; 43],
+            findings: [0; 43],
             complaints: Vec::new(),
         }
     }
@@ -199,11 +204,20 @@ impl Tally {
         sum(&mut self.cases, &other.cases);
         sum(&mut self.differences, &other.differences);
         sum(&mut self.numbers, &other.numbers);
+        sum(&mut self.findings, &other.findings);
         for complaint in other.complaints {
             if self.complaints.len() < SHOWN {
                 println!("{}", complaint);
                 self.complaints.push(complaint);
             }
+        }
+    }
+
+    fn count(&mut self, sample: &Sample, number: usize) {
+        self.cases[sample.group] += 1;
+        self.numbers[number] += 1;
+        if sample.case.call == Call::FindWeights {
+            self.findings[number] += 1;
         }
     }
 
@@ -227,15 +241,27 @@ impl Tally {
             println!("{}: {} cases, {} differ", name, cases, differences);
             failed += usize::from(differences > 0 || cases == 0);
         }
-        let all = || ENDINGS.iter().chain(&REFUSALS);
-        let count = |number: &u32| self.numbers[*number as usize];
-        let counts: Vec<String> = all().map(|n| format!("{}: {}", n, count(n))).collect();
-        println!("how often each number occurred: {}", counts.join(", "));
-        let complete = self.random_cases() == wanted && all().all(|number| count(number) > 0);
+        let all: Vec<u32> = ENDINGS.iter().chain(&REFUSALS).copied().collect();
+        let of_all = each_occurred("of all calls", &all, &self.numbers);
+        let of_find = each_occurred("of the search for weights", &FINDINGS, &self.findings);
+        let complete = self.random_cases() == wanted && of_all && of_find;
         failed += usize::from(!complete);
         println!("{} passed, {} failed", GROUPS.len() + 1 - failed, failed);
         ExitCode::from(u8::from(failed > 0))
     }
+}
+
+/// Prints how often each of these numbers occurred; whether all of them did.
+fn each_occurred(whose: &str, numbers: &[u32], counts: &[u64]) -> bool {
+    let count = |number: &u32| counts[*number as usize];
+    let each = numbers.iter().map(|n| format!("{}: {}", n, count(n)));
+    let each: Vec<String> = each.collect();
+    println!(
+        "how often each number {} occurred: {}",
+        whose,
+        each.join(", ")
+    );
+    numbers.iter().all(|number| count(number) > 0)
 }
 
 impl Progress {

@@ -11,9 +11,11 @@
 //! - [`step`]: what the top entry decides.
 //! - [`run`](mod@run): steps up to an ending (0 to 7, 35, 36) and the answer.
 //! - [`weigh`](mod@weigh): weighing (40, 41, 42).
+//! - [`find`]: looking for weights (40, 42).
 
 pub mod check;
 pub mod fields;
+pub mod find;
 pub mod goal;
 pub mod instances;
 pub mod numbers;
@@ -25,5 +27,6 @@ pub mod table;
 pub mod weigh;
 
 pub use check::check;
+pub use find::find_weights;
 pub use run::run;
 pub use weigh::weigh;

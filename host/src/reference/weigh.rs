@@ -38,8 +38,8 @@ fn weigh_read(table: &[u8], weights: &[u8], goal: &[u8]) -> Result<(u64, u64), R
     if let Some(symbol) = weights.iter().position(|weight| *weight == 0) {
         return Err(Refusal::at(41, symbol));
     }
-    let loses = |rule: &Rule| removed_weight(rule, weights) > body_weight(rule, weights);
-    if let Some(rule) = table.rules.iter().position(|rule| !loses(rule)) {
+    let mut rules = table.rules.iter();
+    if let Some(rule) = rules.position(|rule| !loses_weight(rule, weights)) {
         return Err(Refusal::at(42, rule));
     }
     let goal = goal::read(goal, &table)?;
@@ -47,19 +47,24 @@ fn weigh_read(table: &[u8], weights: &[u8], goal: &[u8]) -> Result<(u64, u64), R
     Ok((weight, step_bound(&table, &goal, weight)))
 }
 
+/// Whether a rule's removed heads weigh more than its body.
+pub(super) fn loses_weight(rule: &Rule, weights: &[u8]) -> bool {
+    removed_weight(rule, weights) > body_weight(rule, weights)
+}
+
 /// The weight of a symbol.
-fn weight_of(symbol: Symbol, weights: &[u8]) -> u64 {
+pub(super) fn weight_of(symbol: Symbol, weights: &[u8]) -> u64 {
     u64::from(weights[symbol.index()])
 }
 
 /// The weight of a rule's removed heads.
-fn removed_weight(rule: &Rule, weights: &[u8]) -> u64 {
+pub(super) fn removed_weight(rule: &Rule, weights: &[u8]) -> u64 {
     let removed = rule.heads[rule.kept..].iter();
     removed.map(|head| weight_of(head.symbol, weights)).sum()
 }
 
 /// The weight of a rule's body; a fail weighs nothing.
-fn body_weight(rule: &Rule, weights: &[u8]) -> u64 {
+pub(super) fn body_weight(rule: &Rule, weights: &[u8]) -> u64 {
     let weight = |item: &Item| match item {
         Item::Fact { symbol, .. } => weight_of(*symbol, weights),
         Item::Fail => 0,
