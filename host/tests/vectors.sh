@@ -6,7 +6,7 @@ cd "$(dirname "$0")/../.." || exit 2
 export CARGO_TARGET_DIR="$PWD/target/host"
 
 # The groups of cases that are stored.
-groups=(check goal run weigh)
+groups=(check goal run weigh find)
 
 fresh=$(mktemp -d) || exit 2
 trap 'rm -rf "$fresh"' EXIT

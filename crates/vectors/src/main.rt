@@ -1,8 +1,8 @@
 // Stored cases, run: each case of the standard input is one call, and its result is printed on a line of its own.
 // The second engine (host/) writes the cases, and the lines expected of them.
 //
-// A case is its kind (`C` check, `R` run, `W` weigh), five words of 32 bits (the lengths of table, goal and weights, the step limit, the length of the
-// answer buffer), then table, goal and weights. A single byte ends the cases.
+// A case is its kind (`C` check, `R` run, `W` weigh, `F` find weights), five words of 32 bits (the lengths of table, goal and weights, the step limit,
+// the length of the answer buffer), then table, goal and weights. A single byte ends the cases.
 ghost use mathlib.Core.Path.{_≡_};
 ghost use Prim.Native.Nat.{_≤_};
 ghost use lib.ListN.{length};
@@ -58,8 +58,8 @@ fn weigh_case(table: &[u8], weights: &[u8], goal: &[u8]) {
     put(b"\n");
 }
 
-// The answer buffer as it is before a run.
-fn fresh_answer() -> [u8; 4096]
+// A buffer as it is before a call that writes it.
+fn fresh_buffer() -> [u8; 4096]
     ensures { λ r. ⌜ 4096 ≡ length r ⌝ }
 {
     [FILL; 4096]
@@ -108,7 +108,7 @@ fn run_within(table: &[u8], goal: &[u8], limit: u32, answer: &mut [u8], room: us
 }
 
 fn run_case(h: Header, table: &[u8], goal: &[u8]) {
-    let mut answer = fresh_answer();
+    let mut answer = fresh_buffer();
     let room = h.room as usize;
     if 4096 < room {
         put(b"answer buffer too long\n");
@@ -120,6 +120,31 @@ fn run_case(h: Header, table: &[u8], goal: &[u8]) {
     put_answer(&answer, written(r));
 }
 
+// A search for weights, with a buffer that holds these bytes before; the line ends with what it holds afterwards.
+fn find_in(table: &[u8], held: &[u8], buffer: &mut [u8])
+    requires { ⌜ length (now held) ≤ length (now buffer) ⌝ }
+{
+    bytes::copy(held, buffer);
+    let r = weights::find_weights(table, buffer);
+    put(b"F ");
+    put_result(r);
+    if 0 < buffer.len() {
+        put(b" ");
+        put_hex(buffer);
+    }
+    put(b"\n");
+}
+
+fn find_case(table: &[u8], held: &[u8]) {
+    let mut buffer = fresh_buffer();
+    let n = held.len();
+    if 4096 < n {
+        put(b"weights too long\n");
+        return;
+    }
+    find_in(table, held, &mut buffer[0..n]);
+}
+
 // The call that the kind names.
 fn call(h: Header, table: &[u8], goal: &[u8], weights: &[u8]) {
     let kind = h.kind;
@@ -127,6 +152,7 @@ fn call(h: Header, table: &[u8], goal: &[u8], weights: &[u8]) {
         b'C' => check_case(table),
         b'R' => run_case(h, table, goal),
         b'W' => weigh_case(table, weights, goal),
+        b'F' => find_case(table, weights),
         _ => put(b"no such kind\n"),
     }
 }

@@ -1,6 +1,6 @@
 //! `vectors FOLDER [GROUP...]`: stored cases for a program that runs them against the proved
 //! library. It writes `stdin`, the cases, and `stdout`, the lines that the reference expects.
-//! Groups are `check`, `goal`, `run` and `weigh`; without a name all of them are written.
+//! Groups are `check`, `goal`, `run`, `weigh` and `find`; without a name all of them are written.
 //!
 //! [`stored`] says how they look.
 
@@ -10,8 +10,10 @@ use std::io;
 use std::path::Path;
 
 use nadhirukh_host::cases::random::Random;
-use nadhirukh_host::cases::{self, edges, Case};
+use nadhirukh_host::cases::{self, edges, finding, Case};
 use nadhirukh_host::{stored, verdict};
+
+const GROUPS: [&str; 5] = ["check", "goal", "run", "weigh", "find"];
 
 /// The seed of all groups; a group begins its own row of cases with it.
 const SEED: u64 = 2004;
@@ -54,13 +56,26 @@ const WEIGH: Quota = &[
     (41, 50),
     (42, 60),
 ];
+const FIND: Quota = &[
+    (0, 90),
+    (16, 5),
+    (17, 5),
+    (18, 5),
+    (19, 5),
+    (20, 5),
+    (21, 5),
+    (22, 5),
+    (23, 5),
+    (40, 25),
+    (42, 50),
+];
 
 fn main() -> io::Result<()> {
     let mut arguments = env::args().skip(1);
     let folder = arguments.next().expect("vectors FOLDER [GROUP...]");
     let mut groups: Vec<String> = arguments.collect();
     if groups.is_empty() {
-        groups = ["check", "goal", "run", "weigh"].map(String::from).into();
+        groups = GROUPS.map(String::from).into();
     }
     let mut input = Vec::new();
     let mut lines = String::new();
@@ -88,7 +103,8 @@ fn group_cases(name: &str) -> Vec<Case> {
         "goal" => pick(3, GOAL, cases::refused_run_case),
         "run" => run_cases(),
         "weigh" => pick(5, WEIGH, cases::weigh_case),
-        _ => panic!("no group {}: check, goal, run, weigh", name),
+        "find" => find_cases(),
+        _ => panic!("no group {}: {}", name, GROUPS.join(", ")),
     }
 }
 
@@ -106,6 +122,13 @@ fn run_cases() -> Vec<Case> {
     let mut found = pick(4, RUN, cases::run_case);
     let mut random = Random::new(SEED);
     found.extend((0..3).map(|_| cases::longest_case(&mut random)));
+    found
+}
+
+/// The longest searches for weights, then random ones.
+fn find_cases() -> Vec<Case> {
+    let mut found = finding::longest_searches();
+    found.extend(pick(6, FIND, finding::case));
     found
 }
 
