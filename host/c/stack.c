@@ -21,16 +21,18 @@ static size_t most[256], cases[256];
 
 static void call(void)
 {
-    static uint8_t answer[65536];
+    static uint8_t answer[65536], weights[65536];
     uint32_t result[NADHIRUKH_RESULT], bound[NADHIRUKH_BOUND];
-    if (now.answer_len > sizeof answer)
-        fail("answer too long");
+    if (now.answer_len > sizeof answer || now.weights_len > sizeof weights)
+        fail("answer or weights too long");
     if (now.kind == 'C')
         nadhirukh_check(now.table, now.table_len, result);
     else if (now.kind == 'R')
         nadhirukh_run(now.table, now.table_len, now.goal, now.goal_len, now.limit, answer, now.answer_len, result);
     else if (now.kind == 'W')
         nadhirukh_weigh(now.table, now.table_len, now.weights, now.weights_len, now.goal, now.goal_len, result, bound);
+    else if (now.kind == 'F')
+        nadhirukh_find_weights(now.table, now.table_len, weights, now.weights_len, result);
     else
         fail("no such kind");
 }
@@ -64,5 +66,6 @@ int main(void)
     print("check", 'C');
     print("run", 'R');
     print("weigh", 'W');
+    print("find", 'F');
     return 0;
 }
