@@ -1,7 +1,7 @@
 //! The proved library against the reference, through the C interface (feature `gateway`).
 #![cfg(feature = "gateway")]
 
-use nadhirukh_host::cases::{any_case, edges, Case};
+use nadhirukh_host::cases::{any_case, edges, finding, Case};
 use nadhirukh_host::{ffi, verdict};
 
 #[test]
@@ -14,9 +14,9 @@ fn random_cases_give_equal_numbers_and_bytes() {
 }
 
 #[test]
-fn tables_at_every_edge_give_equal_numbers() {
-    for table in edges::tables().into_iter().chain(edges::longest_tables(1)) {
-        let case = Case::check(table);
+fn tables_at_every_edge_give_equal_numbers_and_bytes() {
+    let tables = edges::tables().into_iter().chain(edges::longest_tables(1));
+    for case in tables.map(Case::check).chain(finding::edge_cases()) {
         assert_eq!(ffi::verdict(&case), Ok(verdict::reference(&case)));
     }
 }

@@ -1,8 +1,9 @@
 #!/usr/bin/env bash
 # The proved library through its C interface, linked into C programs: on the stored cases one prints the lines of the second engine;
-# the gateway of host/gateway.c prints what is stored, as C and as C++; and valgrind finds no fault in either.
+# the gateway of host/gateway.c prints what is stored, as C and as C++; and valgrind finds no fault in either. Linked into a Rust
+# program, by the declarations of host/src/ffi.rs, it agrees with the second engine.
 # The library is for x86-64. There the programs are built and run as they are; elsewhere by a cross compiler and under qemu, and
-# without valgrind.
+# without valgrind and Rust.
 set -u
 cd "$(dirname "$0")/../.." || exit 2
 . scripts/testing.sh
@@ -73,6 +74,15 @@ watch_gateway() {
     watch "$made/gateway-shared" > "$made/stdout" && cmp "$made/stdout" host/gateway.stdout
 }
 
+# The second engine's test that links the library, so that the declarations for Rust are tried as those for C are.
+rust_links() {
+    have_rust || { echo "library.sh: there is no cargo here, and it could not be installed"; return 1; }
+    (cd host && CARGO_TARGET_DIR="$OLDPWD/target/host" cargo test --quiet --offline --release -j1 --features gateway --test library) \
+        > "$made/log" 2>&1 && grep -q '^test result: ok. [1-9]' "$made/log" && return
+    cat "$made/log"
+    return 1
+}
+
 try "building a C program with the library" link_c host/c/replay.c "$made/replay" -static
 try "running the stored cases through the C interface" replay
 try "building the gateway as C" link_c host/gateway.c "$made/gateway" -static
@@ -85,8 +95,10 @@ if [ "$(uname -m)" = x86_64 ]; then
     try "building programs for valgrind" valgrind_build
     try "the stored cases under valgrind" watch_replay
     try "the gateway under valgrind" watch_gateway
+    try "random cases through the declarations for Rust" rust_links
 else
     echo "library.sh: valgrind is left out, since it runs programs of its own machine alone; nothing is counted for it"
+    echo "library.sh: the Rust program is left out, since the library does not link into one of this machine; nothing is counted for it"
 fi
 echo "$passed passed, $failed failed"
 [ "$failed" -eq 0 ]
