@@ -25,6 +25,7 @@ use Rattle.model.specs.declared.Binding.{Binding}
 use Rattle.model.specs.declared.HeadPlace.{HeadPlace}
 use Rattle.model.specs.declared.RuleShape.{RuleShape}
 use Rattle.model.specs.declared.CallResult.{CallResult}
+use Rattle.model.specs.Guards.{unbound}
 use Rattle.model.specs.Reading.{readOf, noShape}
 use Rattle.model.specs.Table.{Head, Rule, Table, tableOf, ruleOf, ruleAt, places, headsStart, itemsStart, headsFrom, itemsFrom}
 use Rattle.model.specs.Search.{Fired, Found, nothing, undefinedGuard, applies, isAmong, firedOf, firstInstance}
@@ -178,9 +179,9 @@ pub work-lies : {t : List ℕ} {p : HeadPlace} {shape : RuleShape} {j st : ℕ} 
 work-lies {t} {p} {shape} {j} w e = subst (λ (x : ℕ). ItemsLie t x (shape .items)) (sym e) (items-lie t (readOf t .symbols) (itemsStart shape) (shape .items) (w .good .bodyIn))
 
 pub posed : {t : List ℕ} {limit : ℕ} {goal : List Fact} {es : List Entry} {d : ℕ} {f : List Stored} {n : ℕ} {c : Columns} {h : List (List ℕ)} {m given firings k : ℕ} → Running t limit goal es d f n c h m given firings k
-    → {p : HeadPlace} {shape : RuleShape} {j : ℕ} → Placed t p shape j → (i : FactId) (chosen : List ℕ) → length chosen ≡ 4
-    → Posed t (record { place = p; shape = shape; active = i; stored = n; noted = m }) h chosen
-posed r w i chosen l = record {
+    → {p : HeadPlace} {shape : RuleShape} {j : ℕ} → Placed t p shape j → (i : FactId) (chosen : List ℕ) → length chosen ≡ 4 → (values : List ℤ) (bound : List Bool) → bindingOf values bound ≡ unbound
+    → Posed t (record { place = p; shape = shape; active = i; stored = n; noted = m }) h chosen values bound
+posed r w i chosen l values bound free = record {
   partsIn = w .good .partsIn;
   fewHeads = w .good .fewHeads;
   keptFew = w .good .keptFew;
@@ -189,6 +190,7 @@ posed r w i chosen l = record {
   fewNoted = r .past .few;
   wholePast = r .past .long;
   wholeChosen = l;
+  free = free;
 }
 
 module _ {t : List ℕ} {limit : ℕ} {goal : List Fact} {es : List Entry} {d : ℕ} {f : List Stored} {n : ℕ} {c : Columns} {h : List (List ℕ)} {m given firings k : ℕ}

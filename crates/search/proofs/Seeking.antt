@@ -391,7 +391,7 @@ pub row-in : (ids : List ℕ) (id : FactId) (n : ℕ) (found : Lookup) → looku
 unfolding lookupOf
 row-in ids id n found fe {r} e l = let q : rowOf id ids 0 n ≡ some r = sym fe ∙ rw e refl in omega (arith, row-within ids id 0 n q)
 
-module _ (t : List ℕ) (q : Quest) (past : List (List ℕ)) (symbols ids : List ℕ) (args : List ℤ) (chosen₀ : List ℕ) (r : Posed t q past chosen₀)
+module _ (t : List ℕ) (q : Quest) (past : List (List ℕ)) (symbols ids : List ℕ) (args : List ℤ) (chosen₀ : List ℕ) {values₀ : List ℤ} {bound₀ : List Bool} (r : Posed t q past chosen₀ values₀ bound₀)
     (found : Lookup) (fe : lookupOf found ≡ rowOf (q .active) ids 0 (q .stored)) where
   stored-is : storedFact (q .active) (rowsFrom symbols ids args 0 (q .stored)) ≡ factOf symbols args (lookupOf found)
   stored-is = stored-row symbols ids args (q .active) 0 (q .stored) ∙ ap (factOf symbols args) (sym fe)
@@ -401,13 +401,13 @@ module _ (t : List ℕ) (q : Quest) (past : List (List ℕ)) (symbols ids : List
   not-stored e b = record { answer = sym (rw (stored-is, e) refl); long = refl }
 
   module _ {row : ℕ} (e : found ≡ Here row) (ok : Bool) (v : List ℤ) (y : List Bool)
-      (m : boundAs ok v y ≡ matchHead (headAt t (headsStart (q .shape) + 22 * q .place .head)) (rowFact symbols args row) unbound) where
+      (m : boundAs ok v y ≡ matchHead (headAt t (headsStart (q .shape) + 22 * q .place .head)) (rowFact symbols args row) (bindingOf values₀ bound₀)) where
     begins : firstOfQuest t q past symbols ids args ≡ fromActive (rowsFrom symbols ids args 0 (q .stored)) (pastOf (q .noted) past) (q .place) (ruleOf t (q .shape)) (q .active) (boundAs ok v y)
     unfolding firstOfQuest firstInstance lookupOf
     begins =
         let own : getD (heads (ruleOf t (q .shape))) (q .place .head) noHead ≡ headAt t (headsStart (q .shape) + 22 * q .place .head)
         = ap (λ (l : List Head). getD l (q .place .head) noHead) (rule-heads t (q .shape) (r .keptFew)) ∙ heads-at t (headsStart (q .shape)) (q .shape .heads) (q .place .head) noHead (r .headIn) in
-        rw (stored-is, e, own, ← m) refl
+        rw (stored-is, e, own, ← r .free, ← m) refl
 
     pub no-place : ok ≡ false → (b : Binding) → Answered (firstOfQuest t q past symbols ids args) Nothing (q .shape .heads) chosen₀ chosen₀ b
     unfolding boundAs foundAs
@@ -425,7 +425,7 @@ module _ (t : List ℕ) (q : Quest) (past : List (List ℕ)) (symbols ids : List
           long = s .long;
         }
 
-module _ {t : List ℕ} {q : Quest} {past : List (List ℕ)} {chosen₀ : List ℕ} (r : Posed t q past chosen₀) where
+module _ {t : List ℕ} {q : Quest} {past : List (List ℕ)} {chosen₀ : List ℕ} {values₀ : List ℤ} {bound₀ : List Bool} (r : Posed t q past chosen₀ values₀ bound₀) where
   pub ready-first : Ready t q past chosen₀ (headsStart (q .shape)) (q .shape .heads) 0
   ready-first = record {
     headsIn = omega (arith, r .partsIn);

@@ -17,7 +17,7 @@ use Rattle.model.specs.declared.Stored.{Stored}
 use Rattle.model.specs.declared.Binding.{Binding}
 use Rattle.model.specs.declared.Slot.{Slot}
 use Rattle.model.specs.declared.Slot.the-variants.{Unused, Constant, Variable, Bad}
-use Rattle.model.specs.Guards.{variableValue}
+use Rattle.model.specs.Guards.{variableValue, unbound}
 use Rattle.model.specs.Limits.{storeRoom, historyRoom, mostHeads}
 use Rattle.model.specs.Table.{Head, headsFrom, headsStart, guardsStart, itemsStart, ruleOf}
 use Rattle.model.specs.Search.{Fired, Found, nothing, undefinedGuard, applies, mayStand, search, firstInstance}
@@ -151,7 +151,7 @@ firstOfQuest t q past symbols ids args =
     firstInstance (rowsFrom symbols ids args 0 (q .stored)) (pastOf (q .noted) past) (q .place) (ruleOf t (q .shape)) (q .active)
 
 -- what a quest asks of its table and arrays
-pub record Posed (t : List ℕ) (q : Quest) (past : List (List ℕ)) (chosen : List ℕ) : Type 0 where
+pub record Posed (t : List ℕ) (q : Quest) (past : List (List ℕ)) (chosen : List ℕ) (values : List ℤ) (bound : List Bool) : Type 0 where
   pub partsIn : itemsStart (q .shape) ≤ length t
   pub fewHeads : q .shape .heads ≤ mostHeads
   pub keptFew : q .shape .kept ≤ q .shape .heads
@@ -160,6 +160,8 @@ pub record Posed (t : List ℕ) (q : Quest) (past : List (List ℕ)) (chosen : L
   pub fewNoted : q .noted ≤ historyRoom
   pub wholePast : length past ≡ historyRoom
   pub wholeChosen : length chosen ≡ mostHeads
+  -- no variable is bound yet
+  pub free : bindingOf values bound ≡ unbound
 
 -- what it is answered
 pub record Answered (found : Found) (r : Outcome) (heads : ℕ) (chosen₀ chosen : List ℕ) (b : Binding) : Type 0 where

@@ -195,7 +195,7 @@ pub fn first_instance<'a>(
     values: &mut [i32; 16],
     bound: &mut [bool; 16],
 ) -> Outcome
-    requires { ⌜ Posed (now t) q (now past) (now chosen) ⌝ }
+    requires { ⌜ Posed (now t) q (now past) (now chosen) (now values) (now bound) ⌝ }
     ensures { λ r. ⌜ Answered (firstOfQuest (now (t .entry)) q (now (past .entry)) (now (symbols .entry)) (now (ids .entry)) (now (args .entry))) r (q .shape .heads) (now (chosen .entry)) (now (chosen .exit)) (bindingOf (now (values .exit)) (now (bound .exit))) ⌝ }
 {
     let found = row_of(ids, q.stored, q.active);
@@ -206,8 +206,6 @@ pub fn first_instance<'a>(
             let start = shape.start + 1;
             let heads = shape.heads as usize;
             let at = start + 22 * (place.head as usize);
-            *values = [0i32; 16];
-            *bound = [false; 16];
             if crate::matching::match_head(t, at, symbols, args, row, values, bound) {
                 return seek(
                     t,
