@@ -19,7 +19,7 @@ pub struct Compared {
 }
 
 /// Times two workers in turns.
-pub fn compare(mut first: impl FnMut(), mut second: impl FnMut()) -> Compared {
+pub fn compare(mut first: impl FnMut() -> u32, mut second: impl FnMut() -> u32) -> Compared {
     let calls = [calls_a_turn(&mut first), calls_a_turn(&mut second)];
     let mut firsts = Vec::new();
     let mut seconds = Vec::new();
@@ -43,16 +43,20 @@ pub fn compare(mut first: impl FnMut(), mut second: impl FnMut()) -> Compared {
 }
 
 /// Nanoseconds a call over so many calls.
-fn turn(worker: &mut impl FnMut(), calls: u32) -> f64 {
+fn turn(worker: &mut impl FnMut() -> u32, calls: u32) -> f64 {
     let start = Instant::now();
+    let mut sum = 0_u32;
     for _ in 0..calls {
-        worker();
+        sum = sum.wrapping_add(worker());
     }
-    start.elapsed().as_nanos() as f64 / f64::from(calls)
+    let took = start.elapsed();
+    // What the calls gave is looked at, so that none can be left out.
+    assert!(!took.is_zero() || sum > 0, "the clock stands still");
+    took.as_nanos() as f64 / f64::from(calls)
 }
 
 /// How many calls fill a turn; the calls made here also warm the caches.
-fn calls_a_turn(worker: &mut impl FnMut()) -> u32 {
+fn calls_a_turn(worker: &mut impl FnMut() -> u32) -> u32 {
     let mut calls = 1;
     while turn(worker, calls) * f64::from(calls) < TURN_NANOSECONDS {
         calls *= 2;

@@ -2,8 +2,6 @@
 //! turns. Prints, for each load, what the run came to, microseconds a call of both, and the
 //! library's share of the plain engine's time: the median and the middle half of the rounds.
 
-use std::hint::black_box;
-
 use nadhirukh_host::bench::loads::{chain, cycles, Load};
 use nadhirukh_host::bench::timing::{compare, Compared};
 use nadhirukh_host::build::table_a;
@@ -48,13 +46,8 @@ fn check(name: &str, table: &[u8]) {
     ffi::check(table, &mut result);
     assert_eq!(plain::check(table), Outcome::from(result));
     let compared = compare(
-        || {
-            let mut result = [0; 6];
-            black_box(ffi::check(black_box(table), &mut result));
-        },
-        || {
-            black_box(plain::check(black_box(table)));
-        },
+        || ffi::check(table, &mut [0; 6]),
+        || plain::check(table).number,
     );
     print(name, &Outcome::from(result), &compared);
 }
@@ -68,15 +61,8 @@ fn run(load: &Load) {
     let outcome = plain::run(table, goal, MAX_LIMIT, second);
     assert_eq!((outcome, &*first), (Outcome::from(result), &*second));
     let compared = compare(
-        || {
-            let mut result = [0; 6];
-            let (table, goal) = (black_box(table), black_box(goal));
-            black_box(ffi::run(table, goal, MAX_LIMIT, first, &mut result));
-        },
-        || {
-            let (table, goal) = (black_box(table), black_box(goal));
-            black_box(plain::run(table, goal, MAX_LIMIT, second));
-        },
+        || ffi::run(table, goal, MAX_LIMIT, first, &mut [0; 6]),
+        || plain::run(table, goal, MAX_LIMIT, second).number,
     );
     print(&load.name, &Outcome::from(result), &compared);
 }
