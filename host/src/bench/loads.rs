@@ -32,8 +32,12 @@ fn lowest(segments: i32) -> Load {
 }
 
 fn on(segments: i32) -> String {
-    let plural = if segments == 1 { "" } else { "s" };
-    format!("64 readings on {} segment{}", segments, plural)
+    format!("64 readings on {}", counted(segments as u32, "segment"))
+}
+
+/// So many of a sort, in words.
+fn counted(count: u32, one: &str) -> String {
+    format!("{} {}{}", count, one, if count == 1 { "" } else { "s" })
 }
 
 /// Three heads: of three readings on a segment the middle one is kept.
@@ -97,7 +101,7 @@ pub fn chain(heads: u32, stored: i32) -> Load {
         .add(0, &[alone(x), alone(y)])
         .add(0, &[of(SUM, x, half), of(SUM, y, half)]);
     Load {
-        name: format!("{} heads, {} facts stored", heads, stored),
+        name: format!("{}, {} facts stored", counted(heads, "head"), stored),
         table: table(&[2, 2], &[two, linked(heads)]),
         goal: facts(stored / 2, |at| (1, [at, at + 1])),
     }
