@@ -6,14 +6,14 @@ use Prim.Native.Nat.{ℕ, zero, suc, _+_, _*_, _-_, _<_, _≤_}
 use native.Mathlib.Omega.{arith}
 use native.Mathlib.Numerals.{add-one}
 use lib.IntN.{ℤ, pos}
-use lib.ListN.{getD, set, take, drop, length, length-set, length-replicate, replicate}
+use lib.ListN.{getD, set, take, length, length-set, length-replicate, replicate}
 use lib.Seq.{take-suc-set, getD-set-other, getD-set-same, set-getD}
 use Rattle.model.specs.declared.FactId.{FactId}
 use Rattle.model.specs.declared.Fact.{Fact}
 use Rattle.model.specs.declared.Stored.{Stored}
 use Rattle.model.specs.Search.{isAmong}
 use Rattle.model.specs.Steps.{keep, without, noStored}
-use Rattle.search.specs.Views.{factId, rowFact, rowAt, rowsFrom}
+use Rattle.search.specs.Views.{rowFact, rowAt, rowsFrom}
 use Rattle.search.proofs.Compacting.{Compacting, compact-none, compact-drop, compact-keep}
 use Rattle.engine.specs.Arrays.{Columns, columnsOf, four, putAt}
 

@@ -4,16 +4,15 @@ use mathlib.Core.Path.{_≡_, refl, sym, ap, subst, _∙_}
 use mathlib.Core.Bool.{Bool, true, false, cond}
 use mathlib.Core.Option.{Option, none, some}
 use mathlib.Core.List.{List, [], _∷_, _++_, map}
-use Prim.Native.Nat.{ℕ, zero, suc, _+_, _*_, _-_, _/_, _<_, _≤_}
+use Prim.Native.Nat.{ℕ, zero, suc, _+_, _*_, _-_, _<_, _≤_}
 use native.Mathlib.Omega.{arith}
 use native.Mathlib.Numerals.{add-one}
 use lib.Dec.{eqb, leb, ltb}
-use lib.IntN.{ℤ, pos}
+use lib.IntN.{ℤ}
 use lib.ListN.{getD, set, take, drop, length, replicate, getElem?, length-set, length-replicate, length-append, length-map, drop-of-length-le}
 use lib.Seq.{take-suc-set, length-take-le}
-use borrow.Author.Tests.{le-leb, lt-leb, lt-ltb, le-ltb, eq-eqb, ne-eqb, eqb-true, ltb-true, ltb-false, leb-true}
+use borrow.Author.Tests.{le-leb, lt-leb, lt-ltb, le-ltb, eq-eqb, eqb-true, ltb-true, ltb-false, leb-true}
 use Rattle.model.specs.declared.FactId.{FactId}
-use Rattle.model.specs.declared.RuleNumber.{RuleNumber}
 use Rattle.model.specs.declared.Occurrence.{Occurrence}
 use Rattle.model.specs.declared.Symbol.{Symbol}
 use Rattle.model.specs.declared.Fact.{Fact}
@@ -24,29 +23,27 @@ use Rattle.model.specs.declared.Stored.{Stored}
 use Rattle.model.specs.declared.Binding.{Binding}
 use Rattle.model.specs.declared.HeadPlace.{HeadPlace}
 use Rattle.model.specs.declared.RuleShape.{RuleShape}
-use Rattle.model.specs.declared.CallResult.{CallResult}
 use Rattle.model.specs.Guards.{unbound}
 use Rattle.model.specs.Reading.{readOf, noShape}
-use Rattle.model.specs.Table.{Head, Rule, Table, tableOf, ruleOf, ruleAt, places, headsStart, itemsStart, headsFrom, itemsFrom}
+use Rattle.model.specs.Table.{Head, Rule, tableOf, ruleOf, ruleAt, places, headsStart, itemsStart, headsFrom, itemsFrom}
 use Rattle.model.specs.Search.{Fired, Found, nothing, undefinedGuard, applies, isAmong, firedOf, firstInstance}
-use Rattle.model.specs.Steps.{State, waiting, start, failEntry, noStored, bodyEntries, gone, keep, without, pruned, remembered, activeEntry, activated, advanced, dropped, popIf, isRemoved, fired, Outcome, moves, fires, fails, stops, withinHistory, withinStack, withBody, withFound, atPlace, activate, stepItem}
+use Rattle.model.specs.Steps.{State, waiting, start, bodyEntries, gone, keep, without, pruned, remembered, activeEntry, activated, advanced, dropped, popIf, isRemoved, fired, Outcome, moves, fires, stops, withinStack, withBody, withFound, atPlace, stepItem}
 use Rattle.model.specs.Run.{Ended, endedAs, runFrom, run}
 use Rattle.model.proofs.Good.{GoodTable, GoodRule}
-use Rattle.model.proofs.Decoded.{rule-at, rule-kept, rule-removed, rule-body, heads-none, heads-first, heads-length, items-length, places-few, PlaceShape, places-shape}
+use Rattle.model.proofs.Decoded.{rule-at, rule-kept, rule-removed, rule-body, heads-none, heads-first, heads-length, places-few, PlaceShape, places-shape}
 use Rattle.model.proofs.Every.{every}
 use Rattle.model.proofs.Loop.{run-done, run-limit, run-moves, run-fires, run-fails, run-stops}
-use Rattle.search.specs.declared.Quest.{Quest}
 use Rattle.places.specs.declared.Found.{Found as Lookup}
 use Rattle.places.specs.declared.Found.the-variants.{At, Nothing as Unplaced}
 use Rattle.places.specs.Listing.{foundPlace}
 use Rattle.search.specs.declared.Outcome.{Outcome as Answer}
 use Rattle.search.specs.declared.Outcome.the-variants.{Applies, Nothing, UndefinedGuard}
-use Rattle.search.specs.Views.{factId, idsOf, bindingOf, rowsFrom, firedAt, pastOf, Pruned, foundAs, firstOfQuest, Posed, Answered}
+use Rattle.search.specs.Views.{factId, idsOf, bindingOf, firedAt, pastOf, Pruned, foundAs, firstOfQuest, Posed, Answered}
 use Rattle.engine.specs.declared.Body.{Body}
-use Rattle.engine.specs.Arrays.{Columns, columnsOf, putAt, bodyOf, ItemsLie, WorkedOut, baseOf, roomOf, resultOf, Finished}
+use Rattle.engine.specs.Arrays.{Columns, putAt, bodyOf, ItemsLie, WorkedOut, baseOf, roomOf, resultOf, Finished}
 use Rattle.engine.proofs.Worked.{items-lie}
 use Rattle.engine.proofs.Rows.{Rows, facts-more, rows-more, Leaving, left}
-use Rattle.engine.proofs.Stacked.{blank, stackOf, stack-top, stack-push, stack-put, stack-length, stack-empty, Loading, Pushing, push-done}
+use Rattle.engine.proofs.Stacked.{blank, stackOf, stack-top, stack-put, stack-length, stack-empty, Loading, Pushing, push-done}
 
 unfoldable pub stateOf : List Entry → ℕ → List Stored → ℕ → List (List ℕ) → ℕ → ℕ → State
 stateOf es d f n h m given = record { stack = stackOf es d; store = take n f; history = pastOf m h; next = suc given }

@@ -1,30 +1,26 @@
 -- What working a body out comes to: the definition's clauses, in the form in which the code's tests give them.
-use mathlib.Core.Path.{_≡_, refl, sym, ap, subst, _∙_}
+use mathlib.Core.Path.{_≡_, refl, sym, ap, _∙_}
 use mathlib.Core.Bool.{Bool, true, false, cond}
 use mathlib.Core.Option.{Option, none, some}
 use mathlib.Core.List.{List, [], _∷_, _++_, append-assoc, append-nil}
-use Prim.Native.Nat.{ℕ, zero, suc, _+_, _*_, _-_, _<_, _≤_}
+use Prim.Native.Nat.{ℕ, zero, suc, _+_, _-_, _<_, _≤_}
 use native.Mathlib.Omega.{arith}
 use native.Mathlib.Numerals.{add-one}
-use lib.IntN.{ℤ, pos}
+use lib.IntN.{ℤ}
 use lib.ListN.{getD, set, take, length, replicate, length-set, length-replicate}
 use lib.Seq.{take-suc-set}
 use borrow.Author.Tests.{eq-eqb, ne-eqb}
 use Rattle.numbers.specs.declared.Value.{Value}
 use Rattle.numbers.specs.declared.Value.the-variants.{Number, Undefined}
-use Rattle.model.specs.declared.Symbol.{Symbol}
-use Rattle.model.specs.declared.Fact.{Fact}
-use Rattle.model.specs.declared.Item.{Item}
-use Rattle.model.specs.declared.Item.the-variants.{Waiting, Active, Fail}
+use Rattle.model.specs.declared.Item.the-variants.{Waiting}
 use Rattle.model.specs.declared.Entry.{Entry}
 use Rattle.model.specs.declared.Binding.{Binding}
-use Rattle.model.specs.declared.Expression.{Expression}
 use Rattle.model.specs.Guards.{expressionValue}
 use Rattle.model.specs.Slots.{expressionAt}
 use Rattle.model.specs.Table.{itemAt, isFact, bodyFactAt, symbolAt, behindItem, itemsFrom}
 use Rattle.model.specs.Steps.{itemEntry, argumentValues, consDefined, waitingIf, failEntry, consEntry, bodyEntries}
 use Rattle.engine.specs.declared.Made.{Made}
-use Rattle.model.proofs.Good.{ItemsIn, ItemIn}
+use Rattle.model.proofs.Good.{ItemsIn}
 use Rattle.model.proofs.Decoded.{items-first}
 use Rattle.engine.specs.declared.Body.{Body}
 use Rattle.engine.specs.Arrays.{madeOf, bodyOf, ItemsLie, WorkedOut}

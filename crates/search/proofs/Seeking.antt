@@ -1,7 +1,7 @@
 -- Laws of the search on plain values: a row, a complete match, and one turn of the loop over the rows. What is tried from row i on
 -- equals the whole, so that the first answer that is not "nothing" is the definition's.
 use mathlib.Core.Path.{_≡_, refl, sym, ap, subst, _∙_}
-use mathlib.Core.Bool.{Bool, true, false, cond, not, _&&_}
+use mathlib.Core.Bool.{Bool, true, false, cond, not}
 use mathlib.Core.Option.{Option, none, some}
 use mathlib.Core.List.{List, [], _∷_, _++_, map}
 use Prim.Native.Nat.{ℕ, zero, suc, _+_, _*_, _-_, _<_, _≤_}
@@ -9,8 +9,8 @@ use native.Mathlib.Nat.{mul-le-mul-left}
 use native.Mathlib.Omega.{arith}
 use native.Mathlib.Numerals.{add-one}
 use lib.Dec.{eqb}
-use lib.IntN.{ℤ, pos}
-use lib.ListN.{getD, set, take, drop, length, length-set, length-map}
+use lib.IntN.{ℤ}
+use lib.ListN.{getD, set, take, length, length-set, length-map}
 use lib.Seq.{take-suc-set, length-take-le}
 use borrow.Author.Tests.{eq-eqb, ne-eqb}
 use Rattle.numbers.specs.declared.Truth.{Truth}
@@ -21,10 +21,10 @@ use Rattle.model.specs.declared.Stored.{Stored}
 use Rattle.model.specs.declared.Binding.{Binding}
 use Rattle.model.specs.declared.HeadPlace.{HeadPlace}
 use Rattle.model.specs.declared.RuleShape.{RuleShape}
-use Rattle.model.specs.Guards.{guardValue, unbound}
+use Rattle.model.specs.Guards.{guardValue}
 use Rattle.model.specs.Matching.{matchHead}
 use Rattle.model.specs.Table.{Head, Rule, heads, headAt, headsFrom, headsStart, guardsFrom, guardsStart, ruleOf}
-use Rattle.model.specs.Search.{Fired, Found, nothing, undefinedGuard, applies, isAmong, mayStand, firedOf, inHistory, unlessKnown, judged, orElse, firstOf, andThen, complete, candidate, search, storedFact, factIf, noHead, fromActive, firstInstance}
+use Rattle.model.specs.Search.{Fired, Found, nothing, isAmong, mayStand, firedOf, inHistory, judged, orElse, firstOf, andThen, complete, candidate, search, storedFact, factIf, noHead, fromActive, firstInstance}
 use Rattle.model.proofs.Decoded.{heads-none, heads-first, heads-at, rule-guards, rule-heads}
 use Rattle.search.specs.declared.Probe.{Probe}
 use Rattle.search.specs.declared.Quest.{Quest}

@@ -11,7 +11,6 @@ use Rattle.numbers.specs.declared.Value.{Value}
 use Rattle.numbers.specs.declared.Value.the-variants.{Number, Undefined}
 use Rattle.numbers.specs.Numbers.{equal}
 use Rattle.model.specs.declared.FactId.{FactId}
-use Rattle.model.specs.declared.Symbol.{Symbol}
 use Rattle.model.specs.declared.Fact.{Fact}
 use Rattle.model.specs.declared.Stored.{Stored}
 use Rattle.model.specs.declared.Binding.{Binding}
@@ -19,7 +18,7 @@ use Rattle.model.specs.declared.Slot.{Slot}
 use Rattle.model.specs.declared.Slot.the-variants.{Unused, Constant, Variable, Bad}
 use Rattle.model.specs.Guards.{variableValue, unbound}
 use Rattle.model.specs.Limits.{storeRoom, historyRoom, mostHeads}
-use Rattle.model.specs.Table.{Head, headsFrom, headsStart, guardsStart, itemsStart, ruleOf}
+use Rattle.model.specs.Table.{Head, headsFrom, itemsStart, ruleOf}
 use Rattle.model.specs.Search.{Fired, Found, nothing, undefinedGuard, applies, mayStand, search, firstInstance}
 use Rattle.model.specs.Matching.{matchHead}
 use Rattle.model.specs.Steps.{pruned}

@@ -1,5 +1,4 @@
 -- `engine::run` meets its contract: the tests stand in the order table, goal, 35, 36, and a refusal's place fits 32 bits.
-use mathlib.Core.Path.{refl}
 use native.Mathlib.Omega.{arith}
 use Rattle.engine.proofs.Calling.{table-near, goal-near, table-refused, goal-refused, limit-refused, room-refused, passed, all-passed}
 use borrow.Author.Needs.{needs}

@@ -3,7 +3,6 @@
 -- whole search's.
 use borrow.Author.Needs.{needs}
 use Prim.Native.Nat.{ℕ, _<_, _-_}
-use mathlib.Core.Path.{_≡_, refl, sym, _∙_}
 use borrow.Fn.Kinds.{In}
 use borrow.Fn.PlainCycle.{Measures, is, falls, and}
 use Rattle.search.proofs.Seeking.{Trying, trying-starts, none-left, at-active, tried-out, passed-over, no-match, found-nothing, found-applies, found-stuck, ready-judge, ready-next, head-in, chosen-held}
