@@ -1,7 +1,7 @@
 -- What decoding and evaluating come to, case by case: the definition's clauses, in the form in which the code's tests give them.
 use mathlib.Core.Path.{_≡_, refl, sym, ap, _∙_}
 use mathlib.Core.Bool.{Bool, true, false, cond}
-use lib.Dec.{eqb}
+use lib.Dec.{eqb, ltb}
 use mathlib.Core.List.{List, _∷_}
 use Prim.Native.Nat.{ℕ, suc, _+_, _-_, _<_, _≤_}
 use native.Mathlib.Omega.{arith}
@@ -80,6 +80,31 @@ module _ (b : Binding) (t : List ℕ) (p : ℕ) {value : ℕ} (ve : value ≡ u3
       go : (x y : Bool) → Undefined ≡ settledOf b (cond x (cond y Unused Bad) Bad)
       go true y = unused y
       go false y = refl
+
+-- the value of a slot where it lies: only an unused one has a value that settles nothing
+module _ (b : Binding) (t : List ℕ) (p : ℕ) where
+  pub lies-unused : getD t p 0 ≡ 0 → {value : ℕ} → value ≡ u32At t (p + 1) → value ≡ 0 → Number (pos 0) ≡ slotValue b (slotAt t p)
+  unfolding slotValue slotAt slotBy
+  lies-unused e ve z = rw (e, ← ve, z)
+
+  pub lies-spoilt : getD t p 0 ≡ 0 → {value : ℕ} → value ≡ u32At t (p + 1) → (value ≡ 0 → ⊥) → Undefined ≡ slotValue b (slotAt t p)
+  unfolding slotValue slotAt slotBy
+  lies-spoilt e {value} ve z = rw (e, ← ve, ne-eqb value 0 z)
+
+  pub lies-settled : (getD t p 0 ≡ 0 → ⊥) → {r : Value} → r ≡ settledOf b (slotAt t p) → r ≡ slotValue b (slotAt t p)
+  unfolding settledOf slotValue slotAt slotBy
+  lies-settled d {r} q = rw (ne-eqb _ 0 d) (rw (ne-eqb _ 0 d) at q ∙ go (eqb (getD t p 0) 1) (eqb (getD t p 0) 2) (ltb (u32At t (p + 1)) 16))
+    where
+      go : (x y z : Bool) → settledOf b (cond x (Constant (signedOf (u32At t (p + 1)))) (cond y (cond z (Variable (u32At t (p + 1))) Bad) Bad)) ≡ slotValue b (cond x (Constant (signedOf (u32At t (p + 1)))) (cond y (cond z (Variable (u32At t (p + 1))) Bad) Bad))
+      go true y z = refl
+      go false true true = refl
+      go false true false = refl
+      go false false z = refl
+
+  -- an expression that is a slot alone
+  pub value-alone : getD t p 0 ≡ 0 → {v : Value} → v ≡ slotValue b (slotAt t (p + 1)) → v ≡ expressionValue b (expressionAt t p)
+  unfolding expressionValue expressionAt evaluate
+  value-alone e q = rw e q
 
 pub expression-value-is : (b : Binding) (e : Expression) {x y r : Value} → r ≡ evaluate (e .operation) x y → x ≡ slotValue b (e .left) → y ≡ slotValue b (e .right) → r ≡ expressionValue b e
 unfolding expressionValue

@@ -8,11 +8,11 @@ use Prim.Native.Nat.{ℕ, zero, suc, _+_, _*_, _-_, _<_, _≤_}
 use native.Mathlib.Nat.{mul-le-mul-left}
 use native.Mathlib.Omega.{arith}
 use native.Mathlib.Numerals.{add-one}
-use lib.Dec.{eqb}
+use lib.Dec.{eqb, leb}
 use lib.IntN.{ℤ}
 use lib.ListN.{getD, set, take, length, length-set, length-map}
-use lib.Seq.{take-suc-set, length-take-le}
-use borrow.Author.Tests.{eq-eqb, ne-eqb}
+use lib.Seq.{take-suc-set, length-take-le, getD-take, getD-set-same, getD-set-other}
+use borrow.Author.Tests.{eq-eqb, ne-eqb, eqb-true, eqb-false, leb-true, leb-false}
 use Rattle.numbers.specs.declared.Truth.{Truth}
 use Rattle.numbers.specs.declared.Truth.the-variants.{True, False, Undefined as Unknown}
 use Rattle.model.specs.declared.FactId.{FactId}
@@ -33,7 +33,7 @@ use Rattle.search.specs.declared.Lookup.the-variants.{Here, Gone}
 use Rattle.search.specs.declared.Outcome.{Outcome}
 use Rattle.search.specs.declared.Outcome.the-variants.{Applies, Nothing, UndefinedGuard}
 use Rattle.search.proofs.Probed.{no-pass}
-use Rattle.search.specs.Views.{factId, idsOf, bindingOf, boundAs, Probing, passesOf, rowFact, rowAt, rowOf, rowsFrom, firedAt, pastOf, candidateOf, foundAs, lookupOf, soughtOf, Held, Ready, Sought, firstOfQuest, Posed, Answered}
+use Rattle.search.specs.Views.{factId, idsOf, bindingOf, boundAs, Probing, passesOf, rowFact, rowAt, rowOf, rowsFrom, firedAt, pastOf, candidateOf, foundAs, lookupOf, headOf, partnerFrom, soughtOf, Held, Matched, Ready, Sought, firstOfQuest, Posed, Answered}
 
 -- ---- a row
 
@@ -118,62 +118,56 @@ candidate-is : (store : List Stored) (past : List Fired) (p : HeadPlace) (r : Ru
 unfolding candidate candidateOf
 candidate-is store past p r active h chosen b s = refl
 
-module _ (t : List ℕ) (q : Quest) (past : List (List ℕ)) (symbols ids : List ℕ) (args : List ℤ) (p left k : ℕ) (chosen₀ : List ℕ) (b : Binding) where
+module _ (t : List ℕ) (q : Quest) (past : List (List ℕ)) (symbols ids : List ℕ) (args : List ℤ) (k : ℕ) (chosen₀ : List ℕ) (b : Binding) where
   -- no head is left: a complete match
-  pub none-left : left ≡ 0 → {r : Outcome} → foundAs r (idsOf k chosen₀) b ≡ complete [] (pastOf (q .noted) past) (q .place) (ruleOf t (q .shape)) (q .active) (idsOf k chosen₀) b
-      → Sought (soughtOf t q past symbols ids args p left (idsOf k chosen₀) b) r (k + left) k chosen₀ chosen₀ b
+  none-left : k ≡ q .shape .heads → {r : Outcome} → foundAs r (idsOf k chosen₀) b ≡ complete [] (pastOf (q .noted) past) (q .place) (ruleOf t (q .shape)) (q .active) (idsOf k chosen₀) b
+      → Sought (soughtOf t q past symbols ids args k (idsOf k chosen₀) b) r (q .shape .heads) k chosen₀ chosen₀ b
   unfolding soughtOf search
-  none-left z {r} e =
-      let same : k + left ≡ k = omega arith in
+  none-left same {r} e =
+      let z : q .shape .heads - k ≡ 0 = omega arith in
       record {
-        answer = ap (λ (n : ℕ). foundAs r (idsOf n chosen₀) b) same ∙ e ∙ rw (z, heads-none t p) (complete-any _ _ _ _ _ _ _);
+        answer = ap (λ (n : ℕ). foundAs r (idsOf n chosen₀) b) (sym same) ∙ e ∙ rw (z, heads-none t (headOf q k)) (complete-any _ _ _ _ _ _ _);
         before = refl;
         long = refl;
       }
 
-  module _ (whole : length chosen₀ ≡ 4) (few : k + left ≤ 4) (some : left ≡ 0 → ⊥) where
-    heads-are : headsFrom t p left ≡ headAt t p ∷ headsFrom t (p + 22) (left - 1)
-    heads-are = heads-first t p left (omega arith)
+  module _ (whole : length chosen₀ ≡ 4) (few : q .shape .heads ≤ 4) (more : k < q .shape .heads) where
+    heads-are : headsFrom t (headOf q k) (q .shape .heads - k) ≡ headAt t (headOf q k) ∷ headsFrom t (headOf q (k + 1)) (q .shape .heads - (k + 1))
+    heads-are =
+        let p : headOf q k + 22 ≡ headOf q (k + 1) = omega arith in
+        let n : q .shape .heads - k - 1 ≡ q .shape .heads - (k + 1) = omega arith in
+        rw (← p, ← n) (heads-first t (headOf q k) (q .shape .heads - k) (omega arith))
 
     chosen-count : eqb (length (idsOf k chosen₀)) (q .place .head) ≡ eqb k (q .place .head)
     chosen-count = ap (λ (n : ℕ). eqb n (q .place .head)) (chosen-length chosen₀ k whole (omega arith))
 
     -- the active fact stands at its place
-    pub at-active : k ≡ q .place .head → {after : List ℕ} {r : Outcome} {b′ : Binding} {a : ℕ} → a ≡ q .active .0
-        → Sought (soughtOf t q past symbols ids args (p + 22) (left - 1) (idsOf (k + 1) (set chosen₀ k a)) b) r (k + 1 + (left - 1)) (k + 1) (set chosen₀ k a) after b′
-        → Sought (soughtOf t q past symbols ids args p left (idsOf k chosen₀) b) r (k + left) k chosen₀ after b′
+    at-active : k ≡ q .place .head → {a : ℕ} → a ≡ q .active .0 → soughtOf t q past symbols ids args k (idsOf k chosen₀) b ≡ soughtOf t q past symbols ids args (k + 1) (idsOf (k + 1) (set chosen₀ k a)) b
     unfolding soughtOf search
-    at-active e {after} {r} {b′} {a} ea s =
-        let same : k + left ≡ k + 1 + (left - 1) = omega arith in
-        record {
-          answer =
-              ap (λ (n : ℕ). foundAs r (idsOf n after) b′) same ∙ s .answer
-              ∙ ap (λ (l : List FactId). soughtOf t q past symbols ids args (p + 22) (left - 1) l b) (chosen-more chosen₀ k a whole (omega arith) ∙ ap (λ (n : ℕ). idsOf k chosen₀ ++ (factId n ∷ [])) ea)
-              ∙ rw (heads-are, chosen-count, eq-eqb _ _ e, search) refl;
-          before = kept-before chosen₀ chosen₀ after k a (s .before) refl;
-          long = s .long ∙ length-set chosen₀ k a;
-        }
+    at-active e {a} ea =
+        rw (heads-are, chosen-count, eq-eqb _ _ e, search)
+        (sym (ap (λ (l : List FactId). soughtOf t q past symbols ids args (k + 1) l b) (chosen-more chosen₀ k a whole (omega arith) ∙ ap (λ (n : ℕ). idsOf k chosen₀ ++ (factId n ∷ [])) ea)))
 
--- ---- the rows from row i on, tried as partners for the head at p
+-- ---- the rows from row i on, tried as partners for head k
 
 -- one row, and the rest of the search behind it
-unfoldable pub tryRow : List ℕ → Quest → List (List ℕ) → List ℕ → List ℕ → List ℤ → ℕ → ℕ → List FactId → Binding → Stored → Found
-tryRow t q past symbols ids args p left chosen b s =
-    andThen (candidateOf (q .active) (headAt t p) chosen b s) (λ c. soughtOf t q past symbols ids args (p + 22) (left - 1) (chosen ++ (s .id ∷ [])) c)
+unfoldable pub tryRow : List ℕ → Quest → List (List ℕ) → List ℕ → List ℕ → List ℤ → ℕ → List FactId → Binding → Stored → Found
+tryRow t q past symbols ids args k chosen b s =
+    andThen (candidateOf (q .active) (headAt t (headOf q k)) chosen b s) (λ c. soughtOf t q past symbols ids args (k + 1) (chosen ++ (s .id ∷ [])) c)
 
-unfoldable pub tried : List ℕ → Quest → List (List ℕ) → List ℕ → List ℕ → List ℤ → ℕ → ℕ → List FactId → Binding → ℕ → Found
-tried t q past symbols ids args p left chosen b i = firstOf (tryRow t q past symbols ids args p left chosen b) (rowsFrom symbols ids args i (q .stored - i))
+unfoldable pub tried : List ℕ → Quest → List (List ℕ) → List ℕ → List ℕ → List ℤ → ℕ → List FactId → Binding → ℕ → Found
+tried t q past symbols ids args k chosen b i = firstOf (tryRow t q past symbols ids args k chosen b) (rowsFrom symbols ids args i (q .stored - i))
 
 -- the loop over the rows: what it was lent is as it was, but for the chosen ones from k on, and what is tried from row i on is the whole
-pub record Trying (t : List ℕ) (q : Quest) (past : List (List ℕ)) (symbols ids : List ℕ) (args : List ℤ) (p left k : ℕ) (chosen₀ chosen : List ℕ) (values₀ values : List ℤ) (bound₀ bound : List Bool) (i : ℕ) : Type 0 where
+pub record Trying (t : List ℕ) (q : Quest) (past : List (List ℕ)) (symbols ids : List ℕ) (args : List ℤ) (k : ℕ) (chosen₀ chosen : List ℕ) (values₀ values : List ℤ) (bound₀ bound : List Bool) (i : ℕ) : Type 0 where
   pub within : i ≤ q .stored
-  pub someLeft : left ≡ 0 → ⊥
+  pub more : k < q .shape .heads
   pub kept : take k chosen ≡ take k chosen₀
   pub whole : length chosen ≡ 4
   pub long : length chosen ≡ length chosen₀
   pub valuesKept : values ≡ values₀
   pub boundKept : bound ≡ bound₀
-  pub same : tried t q past symbols ids args p left (idsOf k chosen₀) (bindingOf values₀ bound₀) i ≡ soughtOf t q past symbols ids args p left (idsOf k chosen₀) (bindingOf values₀ bound₀)
+  pub same : tried t q past symbols ids args k (idsOf k chosen₀) (bindingOf values₀ bound₀) i ≡ soughtOf t q past symbols ids args k (idsOf k chosen₀) (bindingOf values₀ bound₀)
 
 no-fact : (active : FactId) (h : Head) (chosen : List FactId) (b : Binding) (s : Stored) → matchHead h (s .fact) b ≡ none → candidateOf active h chosen b s ≡ none
 unfolding candidateOf
@@ -199,90 +193,89 @@ wins Applies chosen b later n = refl
 wins Nothing chosen b later n = absurd (n refl)
 wins UndefinedGuard chosen b later n = refl
 
-module _ (t : List ℕ) (q : Quest) (past : List (List ℕ)) (symbols ids : List ℕ) (args : List ℤ) (p left k : ℕ) (chosen₀ : List ℕ) (values₀ : List ℤ) (bound₀ : List Bool) where
-  pub trying-starts : length chosen₀ ≡ 4 → k + left ≤ 4 → (left ≡ 0 → ⊥) → (k ≡ q .place .head → ⊥) → Trying t q past symbols ids args p left k chosen₀ chosen₀ values₀ values₀ bound₀ bound₀ 0
+module _ (t : List ℕ) (q : Quest) (past : List (List ℕ)) (symbols ids : List ℕ) (args : List ℤ) (k : ℕ) (chosen₀ : List ℕ) (values₀ : List ℤ) (bound₀ : List Bool) where
+  pub trying-starts : length chosen₀ ≡ 4 → q .shape .heads ≤ 4 → k < q .shape .heads → (k ≡ q .place .head → ⊥) → Trying t q past symbols ids args k chosen₀ chosen₀ values₀ values₀ bound₀ bound₀ 0
   unfolding tried tryRow soughtOf search candidate candidateOf
   trying-starts w few more other =
       let b = bindingOf values₀ bound₀ in
       let e : q .stored - 0 ≡ q .stored = omega arith in
       record {
         within = omega arith;
-        someLeft = more;
+        more = more;
         kept = refl;
         whole = w;
         long = refl;
         valuesKept = refl;
         boundKept = refl;
-        same = sym (rw (heads-are t q past symbols ids args p left k chosen₀ b w few more, chosen-count t q past symbols ids args p left k chosen₀ b w few more, ne-eqb _ _ other, search) (rw e refl));
+        same = sym (rw (heads-are t q past symbols ids args k chosen₀ b w few more, chosen-count t q past symbols ids args k chosen₀ b w few more, ne-eqb _ _ other, search) (rw e refl));
       }
 
-  module _ {chosen : List ℕ} {values : List ℤ} {bound : List Bool} {i : ℕ} (r : Trying t q past symbols ids args p left k chosen₀ chosen values₀ values bound₀ bound i) where
-    pub tried-out : q .stored ≤ i → Sought (soughtOf t q past symbols ids args p left (idsOf k chosen₀) (bindingOf values₀ bound₀)) Nothing (k + left) k chosen₀ chosen (bindingOf values bound)
+  module _ {chosen : List ℕ} {values : List ℤ} {bound : List Bool} {i : ℕ} (r : Trying t q past symbols ids args k chosen₀ chosen values₀ values bound₀ bound i) where
+    pub tried-out : q .stored ≤ i → Sought (soughtOf t q past symbols ids args k (idsOf k chosen₀) (bindingOf values₀ bound₀)) Nothing (q .shape .heads) k chosen₀ chosen (bindingOf values bound)
     unfolding tried rowsFrom firstOf foundAs
     tried-out l =
         let e : q .stored - i ≡ 0 = omega arith in
         record { answer = sym (rw e refl) ∙ r .same; before = r .kept; long = r .long }
 
     module _ (less : i < q .stored) where
-      row-first : tried t q past symbols ids args p left (idsOf k chosen₀) (bindingOf values₀ bound₀) i
-          ≡ orElse (tryRow t q past symbols ids args p left (idsOf k chosen₀) (bindingOf values₀ bound₀) (rowAt symbols ids args i)) (tried t q past symbols ids args p left (idsOf k chosen₀) (bindingOf values₀ bound₀) (i + 1))
+      row-first : tried t q past symbols ids args k (idsOf k chosen₀) (bindingOf values₀ bound₀) i
+          ≡ orElse (tryRow t q past symbols ids args k (idsOf k chosen₀) (bindingOf values₀ bound₀) (rowAt symbols ids args i)) (tried t q past symbols ids args k (idsOf k chosen₀) (bindingOf values₀ bound₀) (i + 1))
       unfolding tried rowsFrom firstOf
       row-first = let e : q .stored - i ≡ suc (q .stored - (i + 1)) = omega arith in rw (e, add-one i) refl
 
       -- a row with which nothing is found
       next-row : (after : List ℕ) → take k after ≡ take k chosen₀ → length after ≡ length chosen₀
-          → tryRow t q past symbols ids args p left (idsOf k chosen₀) (bindingOf values₀ bound₀) (rowAt symbols ids args i) ≡ nothing
-          → Trying t q past symbols ids args p left k chosen₀ after values₀ values bound₀ bound (i + 1)
+          → tryRow t q past symbols ids args k (idsOf k chosen₀) (bindingOf values₀ bound₀) (rowAt symbols ids args i) ≡ nothing
+          → Trying t q past symbols ids args k chosen₀ after values₀ values bound₀ bound (i + 1)
       next-row after kept long n = record {
         within = omega arith;
-        someLeft = r .someLeft;
+        more = r .more;
         kept = kept;
         whole = long ∙ sym (r .long) ∙ r .whole;
         long = long;
         valuesKept = r .valuesKept;
         boundKept = r .boundKept;
-        same = sym (row-first ∙ ap (λ (x : Found). orElse x (tried t q past symbols ids args p left (idsOf k chosen₀) (bindingOf values₀ bound₀) (i + 1))) n) ∙ r .same;
+        same = sym (row-first ∙ ap (λ (x : Found). orElse x (tried t q past symbols ids args k (idsOf k chosen₀) (bindingOf values₀ bound₀) (i + 1))) n) ∙ r .same;
       }
 
-      none-tried : candidateOf (q .active) (headAt t p) (idsOf k chosen₀) (bindingOf values₀ bound₀) (rowAt symbols ids args i) ≡ none
-          → tryRow t q past symbols ids args p left (idsOf k chosen₀) (bindingOf values₀ bound₀) (rowAt symbols ids args i) ≡ nothing
+      none-tried : candidateOf (q .active) (headAt t (headOf q k)) (idsOf k chosen₀) (bindingOf values₀ bound₀) (rowAt symbols ids args i) ≡ none
+          → tryRow t q past symbols ids args k (idsOf k chosen₀) (bindingOf values₀ bound₀) (rowAt symbols ids args i) ≡ nothing
       unfolding tryRow
       none-tried e = rw e
 
       -- a row that does not show what the probe asks
-      pub passed-over : (w : Probe) → Probing (headAt t p) (bindingOf values₀ bound₀) w → {shows : Bool} → shows ≡ passesOf w symbols args i → shows ≡ false
-          → Trying t q past symbols ids args p left k chosen₀ chosen values₀ values bound₀ bound (i + 1)
+      pub passed-over : (w : Probe) → Probing (headAt t (headOf q k)) (bindingOf values₀ bound₀) w → {shows : Bool} → shows ≡ passesOf w symbols args i → shows ≡ false
+          → Trying t q past symbols ids args k chosen₀ chosen values₀ values bound₀ bound (i + 1)
       unfolding rowAt
       passed-over w pw e f =
           next-row chosen (r .kept) (r .long)
-          (none-tried (no-fact (q .active) (headAt t p) (idsOf k chosen₀) (bindingOf values₀ bound₀) (rowAt symbols ids args i) (no-pass (headAt t p) (bindingOf values₀ bound₀) w pw symbols args i (sym e ∙ f))))
+          (none-tried (no-fact (q .active) (headAt t (headOf q k)) (idsOf k chosen₀) (bindingOf values₀ bound₀) (rowAt symbols ids args i) (no-pass (headAt t (headOf q k)) (bindingOf values₀ bound₀) w pw symbols args i (sym e ∙ f))))
 
       -- the row as a candidate: what the match left, in the loop's own terms
       module _ (ok : Bool) (v : List ℤ) (y : List Bool)
-          (m : boundAs ok v y ≡ candidateOf (q .active) (headAt t p) (idsOf k chosen) (bindingOf values bound) (rowAt symbols ids args i)) where
-        as-candidate : boundAs ok v y ≡ candidateOf (q .active) (headAt t p) (idsOf k chosen₀) (bindingOf values₀ bound₀) (rowAt symbols ids args i)
+          (m : boundAs ok v y ≡ candidateOf (q .active) (headAt t (headOf q k)) (idsOf k chosen) (bindingOf values bound) (rowAt symbols ids args i)) where
+        as-candidate : boundAs ok v y ≡ candidateOf (q .active) (headAt t (headOf q k)) (idsOf k chosen₀) (bindingOf values₀ bound₀) (rowAt symbols ids args i)
         unfolding idsOf
         as-candidate = rw (← r .kept, ← r .valuesKept, ← r .boundKept) m
 
-        pub no-match : ok ≡ false → Trying t q past symbols ids args p left k chosen₀ chosen values₀ values bound₀ bound (i + 1)
+        pub no-match : ok ≡ false → Trying t q past symbols ids args k chosen₀ chosen values₀ values bound₀ bound (i + 1)
         unfolding boundAs
         no-match f = next-row chosen (r .kept) (r .long) (none-tried (sym as-candidate ∙ rw f refl))
 
         -- a match, and the search behind it
-        module _ (yes : ok ≡ true) (few : k + left ≤ 4) {o : Outcome} {after : List ℕ} {b : Binding}
-            (s : Sought (soughtOf t q past symbols ids args (p + 22) (left - 1) (idsOf (k + 1) (set chosen k (getD ids i 0))) (bindingOf v y)) o (k + 1 + (left - 1)) (k + 1) (set chosen k (getD ids i 0)) after b) where
+        module _ (yes : ok ≡ true) (few : q .shape .heads ≤ 4) {o : Outcome} {after : List ℕ} {b : Binding}
+            (s : Sought (soughtOf t q past symbols ids args (k + 1) (idsOf (k + 1) (set chosen k (getD ids i 0))) (bindingOf v y)) o (q .shape .heads) (k + 1) (set chosen k (getD ids i 0)) after b) where
           room : k < 4
-          room = let l : left ≡ 0 → ⊥ = r .someLeft in omega (arith, l)
+          room = omega (arith, r .more)
 
           chosen-are : idsOf (k + 1) (set chosen k (getD ids i 0)) ≡ idsOf k chosen₀ ++ (factId (getD ids i 0) ∷ [])
           unfolding idsOf
           chosen-are = chosen-more chosen k (getD ids i 0) (r .whole) room ∙ ap (λ (l : List ℕ). map factId l ++ (factId (getD ids i 0) ∷ [])) (r .kept)
 
-          found-is : tryRow t q past symbols ids args p left (idsOf k chosen₀) (bindingOf values₀ bound₀) (rowAt symbols ids args i) ≡ foundAs o (idsOf (k + left) after) b
+          found-is : tryRow t q past symbols ids args k (idsOf k chosen₀) (bindingOf values₀ bound₀) (rowAt symbols ids args i) ≡ foundAs o (idsOf (q .shape .heads) after) b
           unfolding tryRow boundAs rowAt
           found-is =
-              let same : k + 1 + (left - 1) ≡ k + left = let l : left ≡ 0 → ⊥ = r .someLeft in omega (arith, l) in
-              rw (← as-candidate, yes) (sym (ap (λ (n : ℕ). foundAs o (idsOf n after) b) (sym same) ∙ s .answer ∙ ap (λ (l : List FactId). soughtOf t q past symbols ids args (p + 22) (left - 1) l (bindingOf v y)) chosen-are))
+              rw (← as-candidate, yes) (sym (s .answer ∙ ap (λ (l : List FactId). soughtOf t q past symbols ids args (k + 1) l (bindingOf v y)) chosen-are))
 
           after-kept : take k after ≡ take k chosen₀
           after-kept = kept-before chosen₀ chosen after k (getD ids i 0) (s .before) (r .kept)
@@ -290,55 +283,190 @@ module _ (t : List ℕ) (q : Quest) (past : List (List ℕ)) (symbols ids : List
           after-long : length after ≡ length chosen₀
           after-long = s .long ∙ length-set chosen k (getD ids i 0) ∙ r .long
 
-          pub found-nothing : o ≡ Nothing → Trying t q past symbols ids args p left k chosen₀ after values₀ values bound₀ bound (i + 1)
+          pub found-nothing : o ≡ Nothing → Trying t q past symbols ids args k chosen₀ after values₀ values bound₀ bound (i + 1)
           unfolding foundAs
           found-nothing e = next-row after after-kept after-long (found-is ∙ rw e refl)
 
           -- any other answer is the whole search's
-          answer-found : (o ≡ Nothing → ⊥) → Sought (soughtOf t q past symbols ids args p left (idsOf k chosen₀) (bindingOf values₀ bound₀)) o (k + left) k chosen₀ after b
+          answer-found : (o ≡ Nothing → ⊥) → Sought (soughtOf t q past symbols ids args k (idsOf k chosen₀) (bindingOf values₀ bound₀)) o (q .shape .heads) k chosen₀ after b
           answer-found n = record {
-            answer = sym (row-first ∙ ap (λ (x : Found). orElse x (tried t q past symbols ids args p left (idsOf k chosen₀) (bindingOf values₀ bound₀) (i + 1))) found-is ∙ wins o (idsOf (k + left) after) b (tried t q past symbols ids args p left (idsOf k chosen₀) (bindingOf values₀ bound₀) (i + 1)) n) ∙ r .same;
+            answer = sym (row-first ∙ ap (λ (x : Found). orElse x (tried t q past symbols ids args k (idsOf k chosen₀) (bindingOf values₀ bound₀) (i + 1))) found-is ∙ wins o (idsOf (q .shape .heads) after) b (tried t q past symbols ids args k (idsOf k chosen₀) (bindingOf values₀ bound₀) (i + 1)) n) ∙ r .same;
             before = after-kept;
             long = after-long;
           }
 
-          pub found-applies : o ≡ Applies → Sought (soughtOf t q past symbols ids args p left (idsOf k chosen₀) (bindingOf values₀ bound₀)) Applies (k + left) k chosen₀ after b
-          found-applies e = subst (λ (x : Outcome). Sought (soughtOf t q past symbols ids args p left (idsOf k chosen₀) (bindingOf values₀ bound₀)) x (k + left) k chosen₀ after b) e (answer-found (λ z. applies-not-nothing (sym e ∙ z)))
+          pub found-applies : o ≡ Applies → Sought (soughtOf t q past symbols ids args k (idsOf k chosen₀) (bindingOf values₀ bound₀)) Applies (q .shape .heads) k chosen₀ after b
+          found-applies e = subst (λ (x : Outcome). Sought (soughtOf t q past symbols ids args k (idsOf k chosen₀) (bindingOf values₀ bound₀)) x (q .shape .heads) k chosen₀ after b) e (answer-found (λ z. applies-not-nothing (sym e ∙ z)))
 
           -- where the guard has no value the binding says nothing
-          pub found-stuck : o ≡ UndefinedGuard → (b′ : Binding) → Sought (soughtOf t q past symbols ids args p left (idsOf k chosen₀) (bindingOf values₀ bound₀)) UndefinedGuard (k + left) k chosen₀ after b′
-          found-stuck e b′ = any-binding (subst (λ (x : Outcome). Sought (soughtOf t q past symbols ids args p left (idsOf k chosen₀) (bindingOf values₀ bound₀)) x (k + left) k chosen₀ after b) e (answer-found (λ z. stuck-not-nothing (sym e ∙ z)))) b′
+          pub found-stuck : o ≡ UndefinedGuard → (b′ : Binding) → Sought (soughtOf t q past symbols ids args k (idsOf k chosen₀) (bindingOf values₀ bound₀)) UndefinedGuard (q .shape .heads) k chosen₀ after b′
+          found-stuck e b′ = any-binding (subst (λ (x : Outcome). Sought (soughtOf t q past symbols ids args k (idsOf k chosen₀) (bindingOf values₀ bound₀)) x (q .shape .heads) k chosen₀ after b) e (answer-found (λ z. stuck-not-nothing (sym e ∙ z)))) b′
 
--- ---- what each call asks
+-- ---- the active fact keeps its own place: with it among the chosen, the search from head `from` on is the one for the next partner
 
-module _ {t : List ℕ} {q : Quest} {past : List (List ℕ)} {chosen₀ : List ℕ} {p left k : ℕ} (r : Ready t q past chosen₀ p left k) where
-  pub ready-judge : Ready t q past chosen₀ 0 0 k
-  ready-judge = record {
-    headsIn = omega arith;
-    guardsIn = r .guardsIn;
-    few = omega (arith, r .few);
-    fewStored = r .fewStored;
-    fewNoted = r .fewNoted;
-    wholePast = r .wholePast;
-    wholeChosen = r .wholeChosen;
-  }
+take-under : (l : List ℕ) (k i x : ℕ) → k ≤ i → take k (set l i x) ≡ take k l
+take-under l zero i x h = refl
+take-under [] (suc k) i x h = refl
+take-under (y ∷ l) (suc k) zero x h = absurd (omega arith)
+take-under (y ∷ l) (suc k) (suc i) x h = ap (λ (m : List ℕ). y ∷ m) (take-under l k i x (omega arith))
 
-  pub ready-next : (chosen : List ℕ) (x : ℕ) → length chosen ≡ 4 → (left ≡ 0 → ⊥) → Ready t q past (set chosen k x) (p + 22) (left - 1) (k + 1)
-  ready-next chosen x w more = record {
-    headsIn = omega (arith, r .headsIn, more);
-    guardsIn = r .guardsIn;
-    few = omega (arith, r .few, more);
-    fewStored = r .fewStored;
-    fewNoted = r .fewNoted;
-    wholePast = r .wholePast;
-    wholeChosen = length-set chosen k x ∙ w;
-  }
+set-there : (l : List ℕ) (i x : ℕ) → i < length l → getD l i 0 ≡ x → set l i x ≡ l
+set-there [] i x h e = absurd (omega arith)
+set-there (y ∷ l) zero x h e = ap (λ (z : ℕ). z ∷ l) (sym e)
+set-there (y ∷ l) (suc i) x h e = ap (λ (m : List ℕ). y ∷ m) (set-there l i x (omega arith) e)
 
-  pub head-in : (left ≡ 0 → ⊥) → p + 22 ≤ length t
-  head-in more = omega (arith, r .headsIn, more)
+-- the next partner's head, by the test
+module _ (k head : ℕ) where
+  pub from-own : k ≡ head → k + 1 ≡ partnerFrom k head
+  unfolding partnerFrom
+  from-own e = rw (eq-eqb _ _ e)
 
-  pub chosen-held : (chosen : List ℕ) → length chosen ≡ 4 → Held chosen k
-  chosen-held chosen w = record { whole = w; few = omega (arith, r .few) }
+  pub from-other : (k ≡ head → ⊥) → k ≡ partnerFrom k head
+  unfolding partnerFrom
+  from-other d = rw (ne-eqb _ _ d)
+
+-- what holds once the active fact has its place, k being the next partner's head
+pub record Seat (q : Quest) (left k : ℕ) (chosen : List ℕ) : Type 0 where
+  pub elsewhere : k ≡ q .place .head → ⊥
+  pub there : getD chosen (q .place .head) 0 ≡ q .active .0
+  pub ahead : k < q .place .head → k + left + 1 ≡ q .shape .heads
+  pub behind : q .place .head < k → k + left ≡ q .shape .heads
+
+module _ {t : List ℕ} {q : Quest} {past : List (List ℕ)} {chosen₀ : List ℕ} {left from : ℕ} (r : Ready t q past chosen₀ left from) where
+  pub from-few : from ≤ 4
+  from-few = go (leb from (q .place .head)) refl
+    where
+      go : (x : Bool) → leb from (q .place .head) ≡ x → from ≤ 4
+      go true e = omega (arith, r .ahead (leb-true _ _ e), r .fewHeads)
+      go false e = omega (arith, r .behind (leb-false _ _ e), r .fewHeads)
+
+  pub place-few : q .place .head < 4
+  place-few = omega (arith, r .headIn, r .fewHeads)
+
+  module _ {a k : ℕ} (ea : a ≡ q .active .0) (ke : k ≡ partnerFrom from (q .place .head)) where
+    next-is : {x : Bool} → eqb from (q .place .head) ≡ x → k ≡ cond x (from + 1) from
+    unfolding partnerFrom
+    next-is e = ke ∙ ap (λ (y : Bool). cond y (from + 1) from) e
+
+    pub seat : Seat q left k (set chosen₀ (q .place .head) a)
+    seat = go (eqb from (q .place .head)) refl
+      where
+        there : getD (set chosen₀ (q .place .head) a) (q .place .head) 0 ≡ q .active .0
+        there = getD-set-same chosen₀ (q .place .head) a 0 (omega (arith, place-few, r .wholeChosen)) ∙ ea
+
+        go : (x : Bool) → eqb from (q .place .head) ≡ x → Seat q left k (set chosen₀ (q .place .head) a)
+        go true e =
+            let own : from ≡ q .place .head = eqb-true _ _ e in
+            let n : k ≡ from + 1 = next-is e in
+            record {
+              elsewhere = λ z. omega arith;
+              there = there;
+              ahead = λ h. absurd (omega arith);
+              behind = λ h. omega (arith, r .ahead (omega arith));
+            }
+        go false e =
+            let n : k ≡ from = next-is e in
+            record {
+              elsewhere = λ z. eqb-false _ _ e (sym n ∙ z);
+              there = there;
+              ahead = λ h. omega (arith, r .ahead (omega arith));
+              behind = λ h. omega (arith, r .behind (omega arith));
+            }
+
+    kept-under : take from (set chosen₀ (q .place .head) a) ≡ take from chosen₀
+    kept-under = go (leb from (q .place .head)) refl
+      where
+        go : (x : Bool) → leb from (q .place .head) ≡ x → take from (set chosen₀ (q .place .head) a) ≡ take from chosen₀
+        go true e = take-under chosen₀ from (q .place .head) a (leb-true _ _ e)
+        go false e = ap (take from) (set-there chosen₀ (q .place .head) a (omega (arith, place-few, r .wholeChosen)) (r .seated (leb-false _ _ e) ∙ sym ea))
+
+    module _ (symbols ids : List ℕ) (args : List ℤ) (b : Binding) where
+      same-sought : soughtOf t q past symbols ids args from (idsOf from chosen₀) b ≡ soughtOf t q past symbols ids args k (idsOf k (set chosen₀ (q .place .head) a)) b
+      unfolding idsOf
+      same-sought = go (eqb from (q .place .head)) refl
+        where
+          go : (x : Bool) → eqb from (q .place .head) ≡ x → soughtOf t q past symbols ids args from (idsOf from chosen₀) b ≡ soughtOf t q past symbols ids args k (idsOf k (set chosen₀ (q .place .head) a)) b
+          go true e =
+              let own : from ≡ q .place .head = eqb-true _ _ e in
+              at-active t q past symbols ids args from chosen₀ b (r .wholeChosen) (r .fewHeads) (omega (arith, r .headIn)) own ea
+              ∙ ap (λ (i : ℕ). soughtOf t q past symbols ids args (from + 1) (idsOf (from + 1) (set chosen₀ i a)) b) own
+              ∙ ap (λ (i : ℕ). soughtOf t q past symbols ids args i (idsOf i (set chosen₀ (q .place .head) a)) b) (sym (next-is e))
+          go false e =
+              ap (λ (l : List ℕ). soughtOf t q past symbols ids args from (map factId l) b) (sym kept-under)
+              ∙ ap (λ (i : ℕ). soughtOf t q past symbols ids args i (idsOf i (set chosen₀ (q .place .head) a)) b) (sym (next-is e))
+
+      -- the answer for the next partner is the whole search's
+      pub seat-back : {o : Outcome} {after : List ℕ} {b′ : Binding} → Sought (soughtOf t q past symbols ids args k (idsOf k (set chosen₀ (q .place .head) a)) b) o (q .shape .heads) k (set chosen₀ (q .place .head) a) after b′
+          → Sought (soughtOf t q past symbols ids args from (idsOf from chosen₀) b) o (q .shape .heads) from chosen₀ after b′
+      seat-back {o} {after} {b′} s = record {
+        answer = s .answer ∙ sym same-sought;
+        before = go (eqb from (q .place .head)) refl ∙ kept-under;
+        long = s .long ∙ length-set chosen₀ (q .place .head) a;
+      }
+        where
+          go : (x : Bool) → eqb from (q .place .head) ≡ x → take from after ≡ take from (set chosen₀ (q .place .head) a)
+          go true e = take-less after (set chosen₀ (q .place .head) a) from (rw (next-is e, add-one from) at (s .before))
+          go false e = rw (next-is e) at (s .before)
+
+    -- no partner is left: the heads are through
+    through : left ≡ 0 → k ≡ q .shape .heads
+    through z = go (leb (q .place .head) k) refl
+      where
+        go : (x : Bool) → leb (q .place .head) k ≡ x → k ≡ q .shape .heads
+        go true e = let h : q .place .head ≤ k = leb-true _ _ e in let d = seat .elsewhere in let l : q .place .head < k = omega (arith, d) in omega (arith, seat .behind l)
+        go false e = let l : k < q .place .head = leb-false _ _ e in omega (arith, seat .ahead l, r .headIn)
+
+    pub some-left : (left ≡ 0 → ⊥) → k < q .shape .heads
+    some-left more = go (leb (q .place .head) k) refl
+      where
+        go : (x : Bool) → leb (q .place .head) k ≡ x → k < q .shape .heads
+        go true e = let h : q .place .head ≤ k = leb-true _ _ e in let d = seat .elsewhere in let l : q .place .head < k = omega (arith, d) in omega (arith, seat .behind l, more)
+        go false e = let l : k < q .place .head = leb-false _ _ e in omega (arith, seat .ahead l, r .headIn)
+
+    pub ready-judge : left ≡ 0 → Matched t q past (set chosen₀ (q .place .head) a) k
+    ready-judge z = record {
+      guardsIn = r .partsIn;
+      few = omega (arith, through z, r .fewHeads);
+      fewNoted = r .fewNoted;
+      wholePast = r .wholePast;
+      wholeChosen = length-set chosen₀ (q .place .head) a ∙ r .wholeChosen;
+    }
+
+    pub judged-last : left ≡ 0 → (symbols ids : List ℕ) (args : List ℤ) {b : Binding} {o : Outcome}
+        → foundAs o (idsOf k (set chosen₀ (q .place .head) a)) b ≡ complete [] (pastOf (q .noted) past) (q .place) (ruleOf t (q .shape)) (q .active) (idsOf k (set chosen₀ (q .place .head) a)) b
+        → Sought (soughtOf t q past symbols ids args from (idsOf from chosen₀) b) o (q .shape .heads) from chosen₀ (set chosen₀ (q .place .head) a) b
+    judged-last z symbols ids args {b} {o} e = seat-back symbols ids args b (none-left t q past symbols ids args k (set chosen₀ (q .place .head) a) b (through z) e)
+
+    module _ (more : left ≡ 0 → ⊥) where
+      pub head-in : headOf q k + 22 ≤ length t
+      head-in = omega (arith, r .partsIn, mul-le-mul-left 22 (some-left more))
+
+      pub tries : {symbols ids : List ℕ} {args : List ℤ} {values : List ℤ} {bound : List Bool}
+          → Trying t q past symbols ids args k (set chosen₀ (q .place .head) a) (set chosen₀ (q .place .head) a) values values bound bound 0
+      tries {symbols} {ids} {args} {values} {bound} =
+          trying-starts t q past symbols ids args k (set chosen₀ (q .place .head) a) values bound (length-set chosen₀ (q .place .head) a ∙ r .wholeChosen) (r .fewHeads) (some-left more) (seat .elsewhere)
+
+      pub ready-next : (chosen : List ℕ) (x : ℕ) → length chosen ≡ 4 → take k chosen ≡ take k (set chosen₀ (q .place .head) a) → Ready t q past (set chosen k x) (left - 1) (k + 1)
+      ready-next chosen x w kept =
+          let d = seat .elsewhere in
+          record {
+            partsIn = r .partsIn;
+            fewHeads = r .fewHeads;
+            headIn = r .headIn;
+            ahead = λ h. omega (arith, seat .ahead (omega arith), more);
+            behind = λ h. omega (arith, seat .behind (omega (arith, d)), more);
+            seated = λ h.
+                let under : q .place .head < k = omega (arith, d) in
+                getD-set-other chosen k (q .place .head) x 0 (λ z. d (sym z))
+                ∙ sym (getD-take k chosen (q .place .head) 0 under) ∙ ap (λ (l : List ℕ). getD l (q .place .head) 0) kept ∙ getD-take k (set chosen₀ (q .place .head) a) (q .place .head) 0 under ∙ seat .there;
+            fewStored = r .fewStored;
+            fewNoted = r .fewNoted;
+            wholePast = r .wholePast;
+            wholeChosen = length-set chosen k x ∙ w;
+          }
+
+      pub chosen-held : (chosen : List ℕ) → length chosen ≡ 4 → Held chosen k
+      chosen-held chosen w = record { whole = w; few = omega (arith, some-left more, r .fewHeads) }
 
 -- ---- the active fact
 
@@ -414,23 +542,26 @@ module _ (t : List ℕ) (q : Quest) (past : List (List ℕ)) (symbols ids : List
     no-place n b = record { answer = sym (begins ∙ rw n refl); long = refl }
 
     pub sought-first : ok ≡ true → {o : Outcome} {chosen : List ℕ} {b : Binding}
-        → Sought (soughtOf t q past symbols ids args (headsStart (q .shape)) (q .shape .heads) (idsOf 0 chosen₀) (bindingOf v y)) o (0 + q .shape .heads) 0 chosen₀ chosen b
+        → Sought (soughtOf t q past symbols ids args 0 (idsOf 0 chosen₀) (bindingOf v y)) o (q .shape .heads) 0 chosen₀ chosen b
         → Answered (firstOfQuest t q past symbols ids args) o (q .shape .heads) chosen₀ chosen b
     unfolding boundAs soughtOf idsOf
     sought-first y1 {o} {chosen} {b} s =
-        let same : q .shape .heads ≡ 0 + q .shape .heads = omega arith in
+        let start : headOf q 0 ≡ headsStart (q .shape) = omega arith in
+        let all : q .shape .heads - 0 ≡ q .shape .heads = omega arith in
         record {
-          answer = ap (λ (n : ℕ). foundAs o (idsOf n chosen) b) same ∙ s .answer
-              ∙ sym (begins ∙ rw (y1, rule-heads t (q .shape) (r .keptFew)) refl);
+          answer = s .answer ∙ sym (begins ∙ rw (y1, rule-heads t (q .shape) (r .keptFew), start, all) refl);
           long = s .long;
         }
 
 module _ {t : List ℕ} {q : Quest} {past : List (List ℕ)} {chosen₀ : List ℕ} {values₀ : List ℤ} {bound₀ : List Bool} (r : Posed t q past chosen₀ values₀ bound₀) where
-  pub ready-first : Ready t q past chosen₀ (headsStart (q .shape)) (q .shape .heads) 0
+  pub ready-first : Ready t q past chosen₀ (q .shape .heads - 1) 0
   ready-first = record {
-    headsIn = omega (arith, r .partsIn);
-    guardsIn = r .partsIn;
-    few = omega (arith, r .fewHeads);
+    partsIn = r .partsIn;
+    fewHeads = r .fewHeads;
+    headIn = r .headIn;
+    ahead = λ h. omega (arith, r .headIn);
+    behind = λ h. absurd (omega arith);
+    seated = λ h. absurd (omega arith);
     fewStored = r .fewStored;
     fewNoted = r .fewNoted;
     wholePast = r .wholePast;

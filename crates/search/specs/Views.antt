@@ -1,5 +1,5 @@
 -- What the code's arrays of plain numbers stand for in the definition.
-use Prim.Native.Nat.{ℕ, zero, suc, _+_, _*_, _≤_, _<_}
+use Prim.Native.Nat.{ℕ, zero, suc, _+_, _-_, _*_, _≤_, _<_}
 use mathlib.Core.Path.{_≡_}
 use mathlib.Core.Bool.{Bool, true, false, cond}
 use mathlib.Core.Option.{Option, none, some}
@@ -18,7 +18,7 @@ use Rattle.model.specs.declared.Slot.{Slot}
 use Rattle.model.specs.declared.Slot.the-variants.{Unused, Constant, Variable, Bad}
 use Rattle.model.specs.Guards.{variableValue, unbound}
 use Rattle.model.specs.Limits.{storeRoom, historyRoom, mostHeads}
-use Rattle.model.specs.Table.{Head, headsFrom, itemsStart, ruleOf}
+use Rattle.model.specs.Table.{Head, headsFrom, headsStart, itemsStart, ruleOf}
 use Rattle.model.specs.Search.{Fired, Found, nothing, undefinedGuard, applies, mayStand, search, firstInstance}
 use Rattle.model.specs.Matching.{matchHead}
 use Rattle.model.specs.Steps.{pruned}
@@ -123,16 +123,36 @@ unfoldable pub rowOf : FactId → List ℕ → ℕ → ℕ → Option ℕ
 rowOf id ids i zero = none
 rowOf id ids i (suc n) = cond (eqb (getD ids i 0) (id .0)) (some i) (rowOf id ids (suc i) n)
 
--- the search with the heads from p on that are left, k facts being chosen
-unfoldable pub soughtOf : List ℕ → Quest → List (List ℕ) → List ℕ → List ℕ → List ℤ → ℕ → ℕ → List FactId → Binding → Found
-soughtOf t q past symbols ids args p left chosen b =
-    search (rowsFrom symbols ids args 0 (q .stored)) (pastOf (q .noted) past) (q .place) (ruleOf t (q .shape)) (q .active) (headsFrom t p left) chosen b
+-- where head k of the rule stands
+abbrev pub headOf : Quest → ℕ → ℕ
+headOf q k = headsStart (q .shape) + 22 * k
 
--- what a search asks: the heads left and the guards lie in the table, and the counts keep their room
-pub record Ready (t : List ℕ) (q : Quest) (past : List (List ℕ)) (chosen : List ℕ) (p left k : ℕ) : Type 0 where
-  pub headsIn : p + 22 * left ≤ length t
+-- the search from head k on, facts being chosen for those before it
+unfoldable pub soughtOf : List ℕ → Quest → List (List ℕ) → List ℕ → List ℕ → List ℤ → ℕ → List FactId → Binding → Found
+soughtOf t q past symbols ids args k chosen b =
+    search (rowsFrom symbols ids args 0 (q .stored)) (pastOf (q .noted) past) (q .place) (ruleOf t (q .shape)) (q .active) (headsFrom t (headOf q k) (q .shape .heads - k)) chosen b
+
+-- the head that gets the next partner, from head k on: the active fact has its own
+unfoldable pub partnerFrom : ℕ → ℕ → ℕ
+partnerFrom k head = cond (eqb k head) (k + 1) k
+
+-- what a complete match asks: the guards lie in the table, and the counts keep their room
+pub record Matched (t : List ℕ) (q : Quest) (past : List (List ℕ)) (chosen : List ℕ) (k : ℕ) : Type 0 where
   pub guardsIn : itemsStart (q .shape) ≤ length t
-  pub few : k + left ≤ mostHeads
+  pub few : k ≤ mostHeads
+  pub fewNoted : q .noted ≤ historyRoom
+  pub wholePast : length past ≡ historyRoom
+  pub wholeChosen : length chosen ≡ mostHeads
+
+-- what a search from head k on asks: so many partners are left, the active fact's own place not counted, and behind that place the active
+-- fact is among the chosen; the rule lies in the table, and the counts keep their room
+pub record Ready (t : List ℕ) (q : Quest) (past : List (List ℕ)) (chosen : List ℕ) (left k : ℕ) : Type 0 where
+  pub partsIn : itemsStart (q .shape) ≤ length t
+  pub fewHeads : q .shape .heads ≤ mostHeads
+  pub headIn : q .place .head < q .shape .heads
+  pub ahead : k ≤ q .place .head → k + left + 1 ≡ q .shape .heads
+  pub behind : q .place .head < k → k + left ≡ q .shape .heads
+  pub seated : q .place .head < k → getD chosen (q .place .head) 0 ≡ q .active .0
   pub fewStored : q .stored ≤ storeRoom
   pub fewNoted : q .noted ≤ historyRoom
   pub wholePast : length past ≡ historyRoom

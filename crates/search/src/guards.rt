@@ -8,7 +8,7 @@ ghost use mathlib.Core.Path.{_≡_};
 ghost use Prim.Native.Nat.{_+_, _*_, _≤_};
 ghost use lib.ListN.{length};
 ghost use Rattle.model.specs.Guards.{variableValue, slotValue, expressionValue, comparisonValue, guardValue};
-ghost use Rattle.model.specs.Slots.{expressionAt};
+ghost use Rattle.model.specs.Slots.{slotAt, expressionAt};
 ghost use Rattle.model.specs.Table.{guardAt, guardsFrom};
 ghost use Rattle.search.specs.Views.{bindingOf};
 
@@ -48,11 +48,28 @@ pub fn expression_value(e: Expression, values: &[i32; 16], bound: &[bool; 16]) -
     )
 }
 
-// The value of the expression at p.
+// The value of the slot at p, read where it lies: an unused one counts as 0.
+fn slot_value_at(t: &[u8], p: usize, values: &[i32; 16], bound: &[bool; 16]) -> Value
+    requires { ⌜ p + 5 ≤ length (now t) ⌝ }
+    ensures { λ r. ⌜ r ≡ slotValue (bindingOf (now (values .entry)) (now (bound .entry))) (slotAt (now (t .entry)) p) ⌝ }
+{
+    if t[p] == 0 {
+        if wire::u32_within(t, p + 1) == 0 {
+            return Value::Number(0);
+        }
+        return Value::Undefined;
+    }
+    crate::probing::settled(t, p, values, bound)
+}
+
+// The value of the expression at p. Most are a slot alone, and of such the second slot is not looked at.
 pub fn value_at(t: &[u8], p: usize, values: &[i32; 16], bound: &[bool; 16]) -> Value
     requires { ⌜ p + 11 ≤ length (now t) ⌝ }
     ensures { λ r. ⌜ r ≡ expressionValue (bindingOf (now (values .entry)) (now (bound .entry))) (expressionAt (now (t .entry)) p) ⌝ }
 {
+    if t[p] == 0 {
+        return slot_value_at(t, p + 1, values, bound);
+    }
     expression_value(slots::expression_at(t, p), values, bound)
 }
 

@@ -12,7 +12,7 @@ ghost use lib.ListN.{length};
 ghost use mathlib.Core.List.{[]};
 ghost use Rattle.model.specs.Search.{complete};
 ghost use Rattle.model.specs.Table.{headAt, ruleOf};
-ghost use Rattle.search.specs.Views.{idsOf, Held, bindingOf, boundAs, rowAt, rowOf, pastOf, candidateOf, foundAs, lookupOf, soughtOf, Ready, Sought, firstOfQuest, Posed, Answered};
+ghost use Rattle.search.specs.Views.{idsOf, Held, bindingOf, boundAs, rowAt, rowOf, pastOf, candidateOf, foundAs, lookupOf, partnerFrom, soughtOf, Matched, Ready, Sought, firstOfQuest, Posed, Answered};
 
 // A row as the partner for a head: neither the active fact nor one that is chosen, and it matches.
 pub fn candidate<'a>(
@@ -51,7 +51,7 @@ pub fn judge(
     values: &[i32; 16],
     bound: &[bool; 16],
 ) -> Outcome
-    requires { ⌜ Ready (now t) q (now past) (now chosen) 0 0 k ⌝ }
+    requires { ⌜ Matched (now t) q (now past) (now chosen) k ⌝ }
     ensures { λ r. ⌜ foundAs r (idsOf k (now (chosen .entry))) (bindingOf (now (values .entry)) (now (bound .entry))) ≡ complete [] (pastOf (q .noted) (now (past .entry))) (q .place) (ruleOf (now (t .entry)) (q .shape)) (q .active) (idsOf k (now (chosen .entry))) (bindingOf (now (values .entry)) (now (bound .entry))) ⌝ }
 {
     let place = q.place;
@@ -69,12 +69,19 @@ pub fn judge(
     }
 }
 
-// The first answer for the heads that are left, of which the first stands at p, k facts being chosen for those before it.
+// The head that gets the next partner, from head k on: the active fact has its own.
+fn partner_from(k: usize, head: usize) -> usize
+    requires { ⌜ k ≤ 4 ⌝ }
+    ensures { λ r. ⌜ r ≡ partnerFrom k head ⌝ }
+{
+    if k == head { k + 1 } else { k }
+}
+
+// The first answer for the partners that are left, from head `from` on, the facts for those before it being chosen.
 pub fn seek<'a>(
     t: &[u8],
-    p: usize,
     left: usize,
-    k: usize,
+    from: usize,
     q: Quest,
     past: &[HistoryEntry; 256],
     symbols: &'a [u8; 128],
@@ -84,35 +91,21 @@ pub fn seek<'a>(
     values: &mut [i32; 16],
     bound: &mut [bool; 16],
 ) -> Outcome
-    requires { ⌜ Ready (now t) q (now past) (now chosen) p left k ⌝ }
-    ensures { λ r. ⌜ Sought (soughtOf (now (t .entry)) q (now (past .entry)) (now (symbols .entry)) (now (ids .entry)) (now (args .entry)) p left (idsOf k (now (chosen .entry))) (bindingOf (now (values .entry)) (now (bound .entry)))) r (k + left) k (now (chosen .entry)) (now (chosen .exit)) (bindingOf (now (values .exit)) (now (bound .exit))) ⌝ }
+    requires { ⌜ Ready (now t) q (now past) (now chosen) left from ⌝ }
+    ensures { λ r. ⌜ Sought (soughtOf (now (t .entry)) q (now (past .entry)) (now (symbols .entry)) (now (ids .entry)) (now (args .entry)) from (idsOf from (now (chosen .entry))) (bindingOf (now (values .entry)) (now (bound .entry)))) r (q .shape .heads) from (now (chosen .entry)) (now (chosen .exit)) (bindingOf (now (values .exit)) (now (bound .exit))) ⌝ }
 {
+    let active = q.active;
+    let place = q.place;
+    let head = place.head as usize;
+    chosen[head] = active.0;
+    let k = partner_from(from, head);
     if left == 0 {
         return judge(t, q, past, chosen, k, values, bound);
     }
-    let place = q.place;
-    let head = place.head as usize;
-    let active = q.active;
-    let next = p + 22;
+    let shape = q.shape;
+    let p = shape.start + 1 + 22 * k;
     let fewer = left - 1;
     let more = k + 1;
-    if k == head {
-        chosen[k] = active.0;
-        return seek(
-            t,
-            next,
-            fewer,
-            more,
-            q,
-            past,
-            symbols,
-            ids,
-            args,
-            chosen,
-            values,
-            bound,
-        );
-    }
     let probe = crate::probing::probe(t, p, values, bound);
     let n = q.stored;
     let mut i: usize = 0;
@@ -138,7 +131,6 @@ pub fn seek<'a>(
                 chosen[k] = ids[at];
                 let r = seek(
                     t,
-                    next,
                     fewer,
                     more,
                     q,
@@ -203,14 +195,12 @@ pub fn first_instance<'a>(
         Lookup::Here(row) => {
             let shape = q.shape;
             let place = q.place;
-            let start = shape.start + 1;
             let heads = shape.heads as usize;
-            let at = start + 22 * (place.head as usize);
+            let at = shape.start + 1 + 22 * (place.head as usize);
             if crate::matching::match_head(t, at, symbols, args, row, values, bound) {
                 return seek(
                     t,
-                    start,
-                    heads,
+                    heads - 1,
                     0,
                     q,
                     past,

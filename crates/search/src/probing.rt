@@ -9,7 +9,7 @@ ghost use Rattle.model.specs.Table.{headAt};
 ghost use Rattle.search.specs.Views.{bindingOf, settledOf, passesOf, Probing};
 
 // The value that an argument must have at the slot at p, if there is one.
-fn settled(t: &[u8], p: usize, values: &[i32; 16], bound: &[bool; 16]) -> Value
+pub fn settled(t: &[u8], p: usize, values: &[i32; 16], bound: &[bool; 16]) -> Value
     requires { ⌜ p + 5 ≤ length (now t) ⌝ }
     ensures { λ r. ⌜ r ≡ settledOf (bindingOf (now (values .entry)) (now (bound .entry))) (slotAt (now (t .entry)) p) ⌝ }
 {

@@ -10,11 +10,11 @@ row-of-requires c κs = search needs
 enum-known-found : tie.Need-enum-known-found
 enum-known-found c = search needs
 
-add-start : tie.Need-add-start
-add-start c = search needs
-
 cast-heads : tie.Need-cast-heads
 cast-heads c = search needs
+
+add-at : tie.Need-add-at
+add-at c = search needs
 
 cast-at : tie.Need-cast-at
 cast-at c = search needs
@@ -22,11 +22,14 @@ cast-at c = search needs
 mul-at : tie.Need-mul-at
 mul-at c = search needs
 
-add-at : tie.Need-add-at
-add-at c = search needs
+add-at-2 : tie.Need-add-at-2
+add-at-2 c = search needs
 
 match-head-requires : tie.Need-match-head-requires
 match-head-requires c κs = search (own-head-in, row-in, needs)
+
+sub-seek : tie.Need-sub-seek
+sub-seek c = search needs
 
 seek-requires : tie.Need-seek-requires
 seek-requires c κs = search needs
@@ -49,12 +52,13 @@ first-instance-spec =
     (tie.spec
     row-of-requires
     enum-known-found
-    add-start
     cast-heads
+    add-at
     cast-at
     mul-at
-    add-at
+    add-at-2
     match-head-requires
+    sub-seek
     seek-requires
     returns
     enum-told
