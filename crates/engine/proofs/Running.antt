@@ -11,7 +11,7 @@ use lib.Dec.{eqb, leb, ltb}
 use lib.IntN.{ℤ}
 use lib.ListN.{getD, set, take, drop, length, replicate, getElem?, length-set, length-replicate, length-append, length-map, drop-of-length-le}
 use lib.Seq.{take-suc-set, length-take-le}
-use borrow.Author.Tests.{le-leb, lt-leb, lt-ltb, le-ltb, eq-eqb, eqb-true, ltb-true, ltb-false, leb-true}
+use borrow.Author.Tests.{le-leb, lt-leb, lt-ltb, le-ltb, eqb-true, ltb-false}
 use Rattle.model.specs.declared.FactId.{FactId}
 use Rattle.model.specs.declared.Occurrence.{Occurrence}
 use Rattle.model.specs.declared.Symbol.{Symbol}
@@ -39,11 +39,11 @@ use Rattle.places.specs.Listing.{foundPlace}
 use Rattle.search.specs.declared.Outcome.{Outcome as Answer}
 use Rattle.search.specs.declared.Outcome.the-variants.{Applies, Nothing, UndefinedGuard}
 use Rattle.search.specs.Views.{factId, idsOf, bindingOf, firedAt, pastOf, Pruned, foundAs, firstOfQuest, Posed, Answered}
-use Rattle.engine.specs.declared.Body.{Body}
-use Rattle.engine.specs.Arrays.{Columns, putAt, bodyOf, ItemsLie, WorkedOut, baseOf, roomOf, resultOf, Finished}
-use Rattle.engine.proofs.Worked.{items-lie}
+use Rattle.engine.specs.Arrays.{Columns, putAt, ItemsLie, stopOf, baseOf, roomOf, resultOf, Finished}
+use Rattle.engine.proofs.Worked.{items-lie, body-count, Pushing, push-done, push-stack}
 use Rattle.engine.proofs.Rows.{Rows, facts-more, rows-more, Leaving, left}
-use Rattle.engine.proofs.Stacked.{blank, stackOf, stack-top, stack-put, stack-length, stack-empty, Loading, Pushing, push-done}
+use Rattle.engine.proofs.Stacked.{blank, stackOf, stack-top, stack-put, stack-length, stack-empty, Loading, segment}
+use Rattle.engine.proofs.Roomy.{history-room}
 
 unfoldable pub stateOf : List Entry → ℕ → List Stored → ℕ → List (List ℕ) → ℕ → ℕ → State
 stateOf es d f n h m given = record { stack = stackOf es d; store = take n f; history = pastOf m h; next = suc given }
@@ -348,179 +348,155 @@ module _ {t : List ℕ} {limit : ℕ} {goal : List Fact} {es : List Entry} {d : 
           removed-is : ruleAt (tableOf t) (p .rule) .removed ≡ headsFrom t (headsStart shape + 22 * shape .kept) (shape .heads - shape .kept)
           removed-is = ap (λ (x : Rule). x .removed) rule-is ∙ rule-removed t shape
 
-          module _ (oe : o ≡ Applies) (w : Body) {st : ℕ} (ste : st ≡ itemsStart shape) (wo : WorkedOut (shape .items) w (bodyEntries b (itemsFrom t st (shape .items))))
-              {under : ℕ} (ue : under ≡ baseOf (shape .kept) (p .head) d) where
-            we : bodyOf (shape .items) w ≡ bodyEntries b (itemsFrom t (itemsStart shape) (shape .items))
-            we = wo .made ∙ ap (λ (x : ℕ). bodyEntries b (itemsFrom t x (shape .items))) ste
+          module _ (oe : o ≡ Applies) {st : ℕ} (ste : st ≡ itemsStart shape) where
+            abbrev entries : Option (List Entry)
+            entries = bodyEntries b (itemsFrom t st (shape .items))
 
-            after : List Entry → State
-            after body = fired here top below p (ruleAt (tableOf t) (p .rule)) (idsOf (shape .heads) chosen) body
-
-            fires-by : Steps (withBody (tableOf t) here top below p (idsOf (shape .heads) chosen) (bodyOf (shape .items) w))
+            fires-by : Steps (withBody (tableOf t) here top below p (idsOf (shape .heads) chosen) entries)
             unfolding foundAs
             fires-by =
-                let body : bodyEntries b (ruleAt (tableOf t) (p .rule) .body) ≡ bodyOf (shape .items) w = ap (bodyEntries b) (ap (λ (x : Rule). x .body) rule-is ∙ rule-body t shape) ∙ sym we in
+                let body : bodyEntries b (ruleAt (tableOf t) (p .rule) .body) ≡ entries
+                = ap (bodyEntries b) (ap (λ (x : Rule). x .body) rule-is ∙ rule-body t shape) ∙ ap (λ (x : ℕ). bodyEntries b (itemsFrom t x (shape .items))) (sym ste) in
                 by-found (applies (idsOf (shape .heads) chosen) b) (rw oe refl) ∙ ap (withBody (tableOf t) here top below p (idsOf (shape .heads) chosen)) body
 
-            -- the stack under the body
-            base-is : popIf (isRemoved (ruleAt (tableOf t) (p .rule)) (p .head)) top below ≡ stackOf es under
-            unfolding isRemoved baseOf top below
-            base-is = rw (kept-count, ue) (go (leb (shape .kept) (p .head)))
-              where
-                go : (x : Bool) → popIf x (getD es (d - 1) blank) (stackOf es (d - 1)) ≡ stackOf es (cond x (d - 1) d)
-                go true = refl
-                go false = sym (stack-top es d deep)
-
-            stack-is : (body : List Entry) → after body .stack ≡ body ++ stackOf es under
-            unfolding after fired
-            stack-is body = ap (λ (x : List Entry). body ++ x) base-is
-
-            stack-count : (body : List Entry) → length body ≡ shape .items → length (after body .stack) ≡ under + shape .items
-            stack-count body l = ap length (stack-is body) ∙ length-append body (stackOf es under) ∙ omega (arith, l, stack-length es under)
-
             -- an argument without a value
-            undefined-stop : w .ok ≡ false → withBody (tableOf t) here top below p (idsOf (shape .heads) chosen) (bodyOf (shape .items) w) ≡ stops 4 (p .rule .0)
-            unfolding bodyOf
-            undefined-stop bad = rw bad refl
+            pub undefined : entries ≡ none → Says 4 (p .rule .0) k
+            undefined q = stopped 4 (p .rule .0) (fires-by ∙ ap (withBody (tableOf t) here top below p (idsOf (shape .heads) chosen)) q)
 
-            -- where no head is removed the store stays
-            store-keeps : shape .kept ≡ shape .heads → (body : List Entry) → after body .store ≡ take n f
-            unfolding after fired stateOf
-            store-keeps q body =
-                let none-gone : drop (shape .kept) (idsOf (shape .heads) chosen) ≡ []
-                = drop-of-length-le (idsOf (shape .heads) chosen) {i = shape .kept} (omega (arith, ids-length chosen (shape .heads) chosen-whole (place-good .good .fewHeads))) in
-                ap (λ (x : List FactId). without x (take n f)) (gone-is ∙ none-gone) ∙ keep-all (take n f)
+            module _ {under : ℕ} (ue : under ≡ baseOf (shape .kept) (p .head) d) where
+              after : List Entry → State
+              after body = fired here top below p (ruleAt (tableOf t) (p .rule)) (idsOf (shape .heads) chosen) body
 
-            -- a body that is worked out has as many entries as the rule has items
-            abbrev body-list : List Entry
-            body-list = take (shape .items) (w .entries)
+              -- the stack under the body
+              base-is : popIf (isRemoved (ruleAt (tableOf t) (p .rule)) (p .head)) top below ≡ stackOf es under
+              unfolding isRemoved baseOf top below
+              base-is = rw (kept-count, ue) (go (leb (shape .kept) (p .head)))
+                where
+                  go : (x : Bool) → popIf x (getD es (d - 1) blank) (stackOf es (d - 1)) ≡ stackOf es (cond x (d - 1) d)
+                  go true = refl
+                  go false = sym (stack-top es d deep)
 
-            module _ {whole : Unit {0}} where
-              body-count : length body-list ≡ shape .items
-              body-count = length-take-le (shape .items) (w .entries) (omega (arith, wo .whole, place-good .good .fewItems))
+              stack-is : (body : List Entry) → after body .stack ≡ body ++ stackOf es under
+              unfolding after fired
+              stack-is body = ap (λ (x : List Entry). body ++ x) base-is
 
-              -- what the firing leaves of the history
-              history-adds : shape .kept ≡ shape .heads → after body-list .history ≡ pastOf m h ++ (firedOf (p .rule) (idsOf (shape .heads) chosen) ∷ [])
+              stack-count : (body : List Entry) → length body ≡ shape .items → length (after body .stack) ≡ under + shape .items
+              stack-count body l = ap length (stack-is body) ∙ length-append body (stackOf es under) ∙ omega (arith, l, stack-length es under)
+
+              -- where no head is removed the store stays
+              store-keeps : shape .kept ≡ shape .heads → (body : List Entry) → after body .store ≡ take n f
               unfolding after fired stateOf
-              history-adds q = let z : shape .heads - shape .kept ≡ 0 = omega arith in rw (removed-is, z, heads-none t (headsStart shape + 22 * shape .kept)) refl
+              store-keeps q body =
+                  let none-gone : drop (shape .kept) (idsOf (shape .heads) chosen) ≡ []
+                  = drop-of-length-le (idsOf (shape .heads) chosen) {i = shape .kept} (omega (arith, ids-length chosen (shape .heads) chosen-whole (place-good .good .fewHeads))) in
+                  ap (λ (x : List FactId). without x (take n f)) (gone-is ∙ none-gone) ∙ keep-all (take n f)
 
-              history-prunes : (shape .kept ≡ shape .heads → ⊥) → after body-list .history ≡ pruned (drop (shape .kept) (idsOf (shape .heads) chosen)) (pastOf m h)
-              unfolding after fired stateOf
-              history-prunes q =
-                  let some-left : 0 < shape .heads - shape .kept = omega (arith, place-good .good .keptFew, q) in
-                  ap (λ (x : List Head). remembered x (firedOf (p .rule) (idsOf (shape .heads) chosen)) (gone (ruleAt (tableOf t) (p .rule)) (idsOf (shape .heads) chosen)) (pastOf m h))
-                  (removed-is ∙ heads-first t (headsStart shape + 22 * shape .kept) (shape .heads - shape .kept) some-left)
-                  ∙ ap (λ (y : List FactId). pruned y (pastOf m h)) gone-is
+              module _ (body : List Entry) where
+                -- what the firing leaves of the history
+                history-adds : shape .kept ≡ shape .heads → after body .history ≡ pastOf m h ++ (firedOf (p .rule) (idsOf (shape .heads) chosen) ∷ [])
+                unfolding after fired stateOf
+                history-adds q = let z : shape .heads - shape .kept ≡ 0 = omega arith in rw (removed-is, z, heads-none t (headsStart shape + 22 * shape .kept)) refl
 
-              history-fits : (shape .kept ≡ shape .heads → ⊥) → leb (length (after body-list .history)) 256 ≡ true
-              history-fits q =
-                  let u : length (after body-list .history) ≤ 256 = omega (arith, ap length (history-prunes q), pruned-length (drop (shape .kept) (idsOf (shape .heads) chosen)) (pastOf m h), noted-count, r .past .few) in
-                  le-leb (length (after body-list .history)) 256 u
+                history-prunes : (shape .kept ≡ shape .heads → ⊥) → after body .history ≡ pruned (drop (shape .kept) (idsOf (shape .heads) chosen)) (pastOf m h)
+                unfolding after fired stateOf
+                history-prunes q =
+                    let some-left : 0 < shape .heads - shape .kept = omega (arith, place-good .good .keptFew, q) in
+                    ap (λ (x : List Head). remembered x (firedOf (p .rule) (idsOf (shape .heads) chosen)) (gone (ruleAt (tableOf t) (p .rule)) (idsOf (shape .heads) chosen)) (pastOf m h))
+                    (removed-is ∙ heads-first t (headsStart shape + 22 * shape .kept) (shape .heads - shape .kept) some-left)
+                    ∙ ap (λ (y : List FactId). pruned y (pastOf m h)) gone-is
 
-              history-counts : shape .kept ≡ shape .heads → length (after body-list .history) ≡ m + 1
-              history-counts q = ap length (history-adds q) ∙ length-append (pastOf m h) (firedOf (p .rule) (idsOf (shape .heads) chosen) ∷ []) ∙ omega (arith, noted-count)
+                history-fits : (shape .kept ≡ shape .heads → ⊥) → leb (length (after body .history)) 256 ≡ true
+                history-fits q =
+                    let u : length (after body .history) ≤ 256 = omega (arith, ap length (history-prunes q), pruned-length (drop (shape .kept) (idsOf (shape .heads) chosen)) (pastOf m h), noted-count, r .past .few) in
+                    le-leb (length (after body .history)) 256 u
 
-              made : w .ok ≡ true → Steps (withinStack (leb (under + shape .items) 256) (p .rule) (after body-list))
-              unfolding bodyOf after
-              made q = fires-by ∙ rw q refl ∙ ap (λ (x : ℕ). withinStack (leb x 256) (p .rule) (after body-list)) (stack-count body-list body-count)
+                history-counts : shape .kept ≡ shape .heads → length (after body .history) ≡ m + 1
+                history-counts q = ap length (history-adds q) ∙ length-append (pastOf m h) (firedOf (p .rule) (idsOf (shape .heads) chosen) ∷ []) ∙ omega (arith, noted-count)
 
-              module _ {stop : ℕ} (re : stop ≡ roomOf (w .ok) under shape m) where
-                -- no value for an argument, or no room
-                pub no-room : (stop ≡ 0 → ⊥) → Says stop (p .rule .0) k
+                made : entries ≡ some body → Steps (withinStack (leb (under + shape .items) 256) (p .rule) (after body))
+                unfolding after
+                made q =
+                    fires-by ∙ ap (withBody (tableOf t) here top below p (idsOf (shape .heads) chosen)) q
+                    ∙ ap (λ (x : ℕ). withinStack (leb x 256) (p .rule) (after body)) (stack-count body (body-count b t st (shape .items) q))
+
+              module _ {full : ℕ} (re : full ≡ roomOf under shape m) where
+                -- the stack or the history is full
+                body-full : (full ≡ 0 → ⊥) → (body : List Entry) → entries ≡ some body → Says full (p .rule .0) k
                 unfolding roomOf
-                no-room z = go (w .ok) refl
+                body-full z body be = by-stack (leb (under + shape .items) 256) refl
                   where
-                    stop-is : (x : ℕ) → roomOf (w .ok) under shape m ≡ x → Steps (stops x (p .rule .0)) → Says stop (p .rule .0) k
+                    stop-is : (x : ℕ) → roomOf under shape m ≡ x → Steps (stops x (p .rule .0)) → Says full (p .rule .0) k
                     stop-is x q s = subst (λ (y : ℕ). Says y (p .rule .0) k) (sym (re ∙ q)) (stopped x (p .rule .0) s)
 
-                    never : {A : Type 0} → roomOf (w .ok) under shape m ≡ 0 → A
+                    never : {A : Type 0} → roomOf under shape m ≡ 0 → A
                     never q = absurd (z (re ∙ q))
 
-                    by-history : w .ok ≡ true → leb (under + shape .items) 256 ≡ true → (y x : Bool) → eqb (shape .kept) (shape .heads) ≡ y → ltb m 256 ≡ x → Says stop (p .rule .0) k
-                    by-history ok fits true true q l = never (rw (ok, fits, q, l) refl)
-                    by-history ok fits true false q l =
-                        stop-is 7 (rw (ok, fits, q, l) refl)
-                        (made ok ∙ rw (fits, history-counts (eqb-true (shape .kept) (shape .heads) q), lt-leb (m + 1) 256 (omega (arith, ltb-false m 256 l))) refl)
-                    by-history ok fits false x q l = never (rw (ok, fits, q) refl)
+                    by-history : leb (under + shape .items) 256 ≡ true → (y x : Bool) → eqb (shape .kept) (shape .heads) ≡ y → ltb m 256 ≡ x → Says full (p .rule .0) k
+                    by-history fits true true q l = never (rw (fits, q, l) refl)
+                    by-history fits true false q l =
+                        stop-is 7 (rw (fits, q, l) refl)
+                        (made body be ∙ rw (fits, history-counts body (eqb-true (shape .kept) (shape .heads) q), lt-leb (m + 1) 256 (omega (arith, ltb-false m 256 l))) refl)
+                    by-history fits false x q l = never (rw (fits, q) refl)
 
-                    by-stack : w .ok ≡ true → (x : Bool) → leb (under + shape .items) 256 ≡ x → Says stop (p .rule .0) k
-                    by-stack ok true fits = by-history ok fits (eqb (shape .kept) (shape .heads)) (ltb m 256) refl refl
-                    by-stack ok false over = stop-is 6 (rw (ok, over) refl) (made ok ∙ rw over refl)
+                    by-stack : (x : Bool) → leb (under + shape .items) 256 ≡ x → Says full (p .rule .0) k
+                    by-stack true fits = by-history fits (eqb (shape .kept) (shape .heads)) (ltb m 256) refl refl
+                    by-stack false over = stop-is 6 (rw over refl) (made body be ∙ rw over refl)
 
-                    go : (x : Bool) → w .ok ≡ x → Says stop (p .rule .0) k
-                    go true ok = by-stack ok (leb (under + shape .items) 256) refl
-                    go false bad = stop-is 4 (rw bad refl) (fires-by ∙ undefined-stop bad)
+                -- no room: an argument without a value goes before it
+                pub no-room : (full ≡ 0 → ⊥) → {stop : ℕ} → stop ≡ stopOf full entries → Says stop (p .rule .0) k
+                unfolding stopOf
+                no-room z {stop} e2 = go entries refl
+                  where
+                    go : (x : Option (List Entry)) → entries ≡ x → Says stop (p .rule .0) k
+                    go none q = subst (λ (y : ℕ). Says y (p .rule .0) k) (sym (e2 ∙ ap (stopOf full) q)) (undefined q)
+                    go (some body) q = subst (λ (y : ℕ). Says y (p .rule .0) k) (sym (e2 ∙ ap (stopOf full) q)) (body-full z body q)
 
-                -- there is room
-                module _ (z : stop ≡ 0) where
-                  pub body-made : w .ok ≡ true
-                  unfolding roomOf
-                  body-made = go (w .ok) refl (sym re ∙ z)
-                    where
-                      go : (x : Bool) → w .ok ≡ x → roomOf (w .ok) under shape m ≡ 0 → w .ok ≡ true
-                      go true q y = q
-                      go false q y = absurd (let v : _≡_ {A = ℕ} 4 0 = sym (rw q refl) ∙ y in omega arith)
-
-                  pub stack-room : under + shape .items ≤ 256
-                  unfolding roomOf
-                  stack-room = go (leb (under + shape .items) 256) refl (sym re ∙ z)
-                    where
-                      go : (x : Bool) → leb (under + shape .items) 256 ≡ x → roomOf (w .ok) under shape m ≡ 0 → under + shape .items ≤ 256
-                      go true q y = leb-true _ _ q
-                      go false q y = absurd (let v : _≡_ {A = ℕ} 6 0 = sym (rw (body-made, q) refl) ∙ y in omega arith)
-
-                  pub history-room : shape .kept ≡ shape .heads → m < 256
-                  unfolding roomOf
-                  history-room e2 = go (ltb m 256) refl (sym re ∙ z)
-                    where
-                      go : (x : Bool) → ltb m 256 ≡ x → roomOf (w .ok) under shape m ≡ 0 → m < 256
-                      go true q y = ltb-true _ _ q
-                      go false q y = absurd (let v : _≡_ {A = ℕ} 7 0 = sym (rw (body-made, le-leb _ _ stack-room, eq-eqb _ _ e2, q) refl) ∙ y in omega arith)
+                -- there is room, and each item is in its place
+                module _ (z : full ≡ 0) {es′ : List Entry} {at left′ : ℕ} (pu : Pushing b t st (shape .items) es under es′ at left′) (pz : left′ ≤ 0) where
+                  abbrev body-list : List Entry
+                  body-list = segment es′ under (shape .items)
 
                   fired-step : leb (length (after body-list .history)) 256 ≡ true → Steps (fires (after body-list))
-                  fired-step q = made body-made ∙ rw (le-leb _ _ stack-room, q) refl
+                  fired-step q = made body-list (push-done pu pz) ∙ rw (le-leb _ _ (pu .room), q) refl
 
                   -- the run goes on after a firing
-                  went : {es′ : List Entry} {d′ : ℕ} {f′ : List Stored} {n′ : ℕ} {c′ : Columns} {h′ : List (List ℕ)} {m′ : ℕ}
-                      → length es′ ≡ 256 → d′ ≤ 256 → Rows f′ c′ n′ → Past h′ m′ → leb (length (after body-list .history)) 256 ≡ true
-                      → after body-list ≡ stateOf es′ d′ f′ n′ h′ m′ given → Running t limit goal es′ d′ f′ n′ c′ h′ m′ given (firings + 1) (k + 1)
-                  went {es′} {d′} {f′} {n′} {c′} {h′} {m′} l v x y fits q = record {
-                    long = l;
-                    deep = v;
-                    rows = x;
-                    past = y;
-                    givenFew = omega (arith, r .givenFew);
-                    firingsFew = omega (arith, r .firingsFew);
-                    steps = omega arith;
-                    legal = r .legal;
-                    same =
-                        ap (λ (u : ℕ). runFrom (tableOf t) (limit - (k + 1)) u (firings + 1) (stateOf es′ d′ f′ n′ h′ m′ given)) (add-one k)
-                        ∙ ap (λ (u : ℕ). runFrom (tableOf t) (limit - (k + 1)) (suc k) u (stateOf es′ d′ f′ n′ h′ m′ given)) (add-one firings)
-                        ∙ sym (run-fires (tableOf t) k firings here top below (under′ deep) (limit - (k + 1)) (stateOf es′ d′ f′ n′ h′ m′ given) (fired-step fits ∙ ap fires q))
-                        ∙ ap (λ (u : ℕ). runFrom (tableOf t) u k firings here) (sym (left-over more)) ∙ r .same;
-                  }
+                  went : {f′ : List Stored} {n′ : ℕ} {c′ : Columns} {h′ : List (List ℕ)} {m′ : ℕ}
+                      → Rows f′ c′ n′ → Past h′ m′ → leb (length (after body-list .history)) 256 ≡ true
+                      → after body-list .store ≡ take n′ f′ → after body-list .history ≡ pastOf m′ h′
+                      → Running t limit goal es′ (under + shape .items) f′ n′ c′ h′ m′ given (firings + 1) (k + 1)
+                  unfolding after fired stateOf
+                  went {f′} {n′} {c′} {h′} {m′} x y fits stored noted =
+                      let q : after body-list ≡ stateOf es′ (under + shape .items) f′ n′ h′ m′ given
+                      = state-is (after body-list) es′ (under + shape .items) f′ n′ h′ m′ given (stack-is body-list ∙ sym (push-stack pu pz)) stored noted refl in
+                      record {
+                        long = pu .long;
+                        deep = pu .room;
+                        rows = x;
+                        past = y;
+                        givenFew = omega (arith, r .givenFew);
+                        firingsFew = omega (arith, r .firingsFew);
+                        steps = omega arith;
+                        legal = r .legal;
+                        same =
+                            ap (λ (u : ℕ). runFrom (tableOf t) (limit - (k + 1)) u (firings + 1) (stateOf es′ (under + shape .items) f′ n′ h′ m′ given)) (add-one k)
+                            ∙ ap (λ (u : ℕ). runFrom (tableOf t) (limit - (k + 1)) (suc k) u (stateOf es′ (under + shape .items) f′ n′ h′ m′ given)) (add-one firings)
+                            ∙ sym (run-fires (tableOf t) k firings here top below (under′ deep) (limit - (k + 1)) (stateOf es′ (under + shape .items) f′ n′ h′ m′ given) (fired-step fits ∙ ap fires q))
+                            ∙ ap (λ (u : ℕ). runFrom (tableOf t) u k firings here) (sym (left-over more)) ∙ r .same;
+                      }
 
-                  module _ {es′ : List Entry} {d′ l′ : ℕ} (pu : Pushing body-list es under es′ d′ l′) (pz : l′ ≤ 0) where
-                    stack-after : after body-list .stack ≡ stackOf es′ d′
-                    stack-after = stack-is body-list ∙ sym (push-done pu pz)
+                  pub propagates : shape .kept ≡ shape .heads → (x : List ℕ) → firedAt x ≡ firedOf (p .rule) (idsOf (shape .heads) chosen)
+                      → Running t limit goal es′ (under + shape .items) f n c (set h m x) (m + 1) given (firings + 1) (k + 1)
+                  propagates e2 x xe =
+                      let less : m < 256 = history-room under shape m re z e2 in
+                      went (r .rows) (record { long = length-set h m x ∙ r .past .long; few = omega arith })
+                      (let u : length (after body-list .history) ≤ 256 = omega (arith, history-counts body-list e2) in le-leb (length (after body-list .history)) 256 u)
+                      (store-keeps e2 body-list) (history-adds body-list e2 ∙ sym (past-more h m x (r .past .long) less ∙ ap (λ (y : Fired). pastOf m h ++ (y ∷ [])) xe))
 
-                    depth-after : d′ ≤ 256
-                    depth-after = omega (arith, pu .depth, pu .room)
-
-                    pub propagates : shape .kept ≡ shape .heads → (x : List ℕ) → firedAt x ≡ firedOf (p .rule) (idsOf (shape .heads) chosen)
-                        → Running t limit goal es′ d′ f n c (set h m x) (m + 1) given (firings + 1) (k + 1)
-                    unfolding after fired stateOf
-                    propagates e2 x xe =
-                        let less : m < 256 = history-room e2 in
-                        went (pu .long) depth-after (r .rows) (record { long = length-set h m x ∙ r .past .long; few = omega arith })
-                        (let u : length (after body-list .history) ≤ 256 = omega (arith, history-counts e2) in le-leb (length (after body-list .history)) 256 u)
-                        (state-is (after body-list) es′ d′ f n (set h m x) (m + 1) given stack-after (store-keeps e2 body-list) (history-adds e2 ∙ sym (past-more h m x (r .past .long) less ∙ ap (λ (y : Fired). pastOf m h ++ (y ∷ [])) xe)) refl)
-
-                    pub simplifies : (shape .kept ≡ shape .heads → ⊥) → {f′ : List Stored} {c′ : Columns} {n′ row : ℕ} → Leaving (drop (shape .kept) (idsOf (shape .heads) chosen)) f n f′ c′ n′ row → n ≤ row
-                        → {h′ : List (List ℕ)} {m′ : ℕ} → Pruned (drop (shape .kept) (idsOf (shape .heads) chosen)) m h h′ m′
-                        → Running t limit goal es′ d′ f′ n′ c′ h′ m′ given (firings + 1) (k + 1)
-                    unfolding after fired stateOf
-                    simplifies e2 {f′} {c′} {n′} {row} v rw′ {h′} {m′} pr =
-                        went (pu .long) depth-after (v .columns) (record { long = pr .long ∙ r .past .long; few = omega (arith, pr .fewer, r .past .few) })
-                        (history-fits e2)
-                        (state-is (after body-list) es′ d′ f′ n′ h′ m′ given stack-after (ap (λ (y : List FactId). without y (take n f)) gone-is ∙ sym (left v rw′)) (history-prunes e2 ∙ sym (pr .left)) refl)
+                  pub simplifies : (shape .kept ≡ shape .heads → ⊥) → {f′ : List Stored} {c′ : Columns} {n′ row : ℕ} → Leaving (drop (shape .kept) (idsOf (shape .heads) chosen)) f n f′ c′ n′ row → n ≤ row
+                      → {h′ : List (List ℕ)} {m′ : ℕ} → Pruned (drop (shape .kept) (idsOf (shape .heads) chosen)) m h h′ m′
+                      → Running t limit goal es′ (under + shape .items) f′ n′ c′ h′ m′ given (firings + 1) (k + 1)
+                  unfolding after fired stateOf
+                  simplifies e2 v rw′ pr =
+                      went (v .columns) (record { long = pr .long ∙ r .past .long; few = omega (arith, pr .fewer, r .past .few) })
+                      (history-fits body-list e2)
+                      (ap (λ (y : List FactId). without y (take n f)) gone-is ∙ sym (left v rw′)) (history-prunes body-list e2 ∙ sym (pr .left))

@@ -1,15 +1,14 @@
 -- The stack's array against the definition's list: the first d entries, the last of them on top.
-use mathlib.Core.Path.{_≡_, refl, sym, ap, _∙_}
+use mathlib.Core.Path.{_≡_, refl, ap, _∙_}
 use mathlib.Core.List.{List, [], _∷_, _++_, map}
-use Prim.Native.Nat.{ℕ, zero, suc, _+_, _*_, _-_, _<_, _≤_}
+use Prim.Native.Nat.{ℕ, zero, suc, _+_, _-_, _<_, _≤_}
 use native.Mathlib.Omega.{arith}
 use native.Mathlib.Numerals.{add-one}
-use lib.IntN.{ℤ, pos}
-use lib.ListN.{getD, set, take, drop, length, replicate, length-set, length-replicate, drop-of-length-le}
-use lib.Seq.{getD-set-other, getD-set-same, getD-take, length-take-le, drop-cons, drop-length}
+use lib.IntN.{pos}
+use lib.ListN.{getD, set, drop, length, replicate, length-set, length-replicate}
+use lib.Seq.{getD-set-other, getD-set-same, drop-cons, drop-length}
 use Rattle.model.specs.declared.Fact.{Fact}
-use Rattle.model.specs.declared.Item.{Item}
-use Rattle.model.specs.declared.Item.the-variants.{Waiting, Active, Fail}
+use Rattle.model.specs.declared.Item.the-variants.{Waiting}
 use Rattle.model.specs.declared.Entry.{Entry}
 use Rattle.model.specs.Steps.{waiting}
 
@@ -21,7 +20,7 @@ unfoldable pub stackOf : List Entry → ℕ → List Entry
 stackOf es zero = []
 stackOf es (suc d) = getD es d blank ∷ stackOf es d
 
-stack-frame : (es : List Entry) (i : ℕ) (e : Entry) (n : ℕ) → n ≤ i → stackOf (set es i e) n ≡ stackOf es n
+pub stack-frame : (es : List Entry) (i : ℕ) (e : Entry) (n : ℕ) → n ≤ i → stackOf (set es i e) n ≡ stackOf es n
 unfolding stackOf
 stack-frame es i e zero h = refl
 stack-frame es i e (suc n) h =
@@ -80,44 +79,33 @@ load-more goal es i e s h l d q = record {
       stack-push es i (waiting e) (omega (arith, l .long)) ∙ rw (u, l .same);
 }
 
--- ---- a body, pushed from its last entry to its first
+-- ---- a part of the stack
 
-pub record Pushing (body : List Entry) (es₀ : List Entry) (d₀ : ℕ) (es : List Entry) (d left : ℕ) : Type 0 where
-  pub within : left ≤ length body
-  pub long : length es ≡ 256
-  pub few : length body ≤ 4
-  pub room : d₀ + length body ≤ 256
-  pub depth : d + left ≡ d₀ + length body
-  pub same : stackOf es d ≡ drop left body ++ stackOf es₀ d₀
+-- the k entries from place u on, the last on top
+unfoldable pub segment : List Entry → ℕ → ℕ → List Entry
+segment es u zero = []
+segment es u (suc k) = getD es (u + k) blank ∷ segment es u k
 
-pub push-none : (n : ℕ) (entries es : List Entry) (d : ℕ) → length entries ≡ 4 → n ≤ 4 → length es ≡ 256 → d + n ≤ 256 → Pushing (take n entries) es d es d n
-push-none n entries es d w few l h =
-    let q : length (take n entries) ≡ n = length-take-le n entries (omega arith) in
-    record {
-      within = omega arith;
-      few = omega arith;
-      long = l;
-      room = omega arith;
-      depth = omega arith;
-      same = sym (ap (λ (l : List Entry). l ++ stackOf es d) (drop-of-length-le (take n entries) {i = n} (omega arith)));
-    }
+pub segment-frame : (es : List Entry) (i : ℕ) (e : Entry) (u k : ℕ) → i < u → segment (set es i e) u k ≡ segment es u k
+unfolding segment
+segment-frame es i e u zero h = refl
+segment-frame es i e u (suc k) h =
+    let r : segment (set es i e) u k ≡ segment es u k = segment-frame es i e u k h in
+    let ne : u + k ≡ i → ⊥ = λ q. omega arith in
+    rw (getD-set-other es i (u + k) e blank ne, r)
 
-pub push-more : (n : ℕ) (entries : List Entry) {es₀ : List Entry} {d₀ : ℕ} {es : List Entry} {d left : ℕ} → Pushing (take n entries) es₀ d₀ es d left → 0 < left → length entries ≡ 4 → n ≤ 4
-    → Pushing (take n entries) es₀ d₀ (set es d (getD entries (left - 1) blank)) (d + 1) (left - 1)
-push-more n entries {es₀} {d₀} {es} {d} {left} r h w few =
-    let q : length (take n entries) ≡ n = length-take-le n entries (omega arith) in
-    record {
-      within = omega (arith, r .within);
-      few = r .few;
-      long = rw (length-set, r .long);
-      room = r .room;
-      depth = omega (arith, r .depth);
-      same =
-          let k : suc (left - 1) ≡ left = omega arith in
-          let e : getD (take n entries) (left - 1) blank ≡ getD entries (left - 1) blank = getD-take n entries (left - 1) blank (omega (arith, r .within)) in
-          let u : drop (left - 1) (take n entries) ≡ getD entries (left - 1) blank ∷ drop left (take n entries) = rw (drop-cons (take n entries) (left - 1) blank (omega (arith, r .within)), k, e) in
-          stack-push es d (getD entries (left - 1) blank) (omega (arith, r .long, r .depth, r .room)) ∙ rw (u, r .same);
-    }
+-- the lowest entry stands last
+pub segment-lowest : (es : List Entry) (u k : ℕ) → segment es u (suc k) ≡ segment es (suc u) k ++ (getD es u blank ∷ [])
+unfolding segment
+segment-lowest es u zero = let q : u + 0 ≡ u = omega arith in rw q
+segment-lowest es u (suc k) =
+    let q : u + suc k ≡ suc u + k = omega arith in
+    let r : segment es u (suc k) ≡ segment es (suc u) k ++ (getD es u blank ∷ []) = segment-lowest es u k in
+    ap (λ (j : ℕ). getD es j blank ∷ segment es u (suc k)) q ∙ ap (λ (l : List Entry). getD es (suc u + k) blank ∷ l) r
 
-pub push-done : {body es₀ : List Entry} {d₀ : ℕ} {es : List Entry} {d left : ℕ} → Pushing body es₀ d₀ es d left → left ≤ 0 → stackOf es d ≡ body ++ stackOf es₀ d₀
-push-done {body} {es₀} {d₀} {es} {d} {left} r h = let z : left ≡ 0 = omega arith in r .same ∙ ap (λ (n : ℕ). drop n body ++ stackOf es₀ d₀) z
+pub stack-segment : (es : List Entry) (u k : ℕ) → stackOf es (u + k) ≡ segment es u k ++ stackOf es u
+unfolding stackOf segment
+stack-segment es u zero = let q : u + 0 ≡ u = omega arith in ap (stackOf es) q
+stack-segment es u (suc k) =
+    let q : u + suc k ≡ suc (u + k) = omega arith in
+    ap (stackOf es) q ∙ ap (λ (l : List Entry). getD es (u + k) blank ∷ l) (stack-segment es u k)

@@ -1,14 +1,13 @@
 -- What working a body out comes to: the definition's clauses, in the form in which the code's tests give them.
-use mathlib.Core.Path.{_≡_, refl, sym, ap, _∙_}
+use mathlib.Core.Path.{_≡_, refl, sym, ap, subst, _∙_}
 use mathlib.Core.Bool.{Bool, true, false, cond}
 use mathlib.Core.Option.{Option, none, some}
 use mathlib.Core.List.{List, [], _∷_, _++_, append-assoc, append-nil}
 use Prim.Native.Nat.{ℕ, zero, suc, _+_, _-_, _<_, _≤_}
 use native.Mathlib.Omega.{arith}
-use native.Mathlib.Numerals.{add-one}
 use lib.IntN.{ℤ}
-use lib.ListN.{getD, set, take, length, replicate, length-set, length-replicate}
-use lib.Seq.{take-suc-set}
+use lib.ListN.{getD, set, length, length-set}
+use lib.Seq.{getD-set-same}
 use borrow.Author.Tests.{eq-eqb, ne-eqb}
 use Rattle.numbers.specs.declared.Value.{Value}
 use Rattle.numbers.specs.declared.Value.the-variants.{Number, Undefined}
@@ -22,8 +21,8 @@ use Rattle.model.specs.Steps.{itemEntry, argumentValues, consDefined, waitingIf
 use Rattle.engine.specs.declared.Made.{Made}
 use Rattle.model.proofs.Good.{ItemsIn}
 use Rattle.model.proofs.Decoded.{items-first}
-use Rattle.engine.specs.declared.Body.{Body}
-use Rattle.engine.specs.Arrays.{madeOf, bodyOf, ItemsLie, WorkedOut}
+use Rattle.engine.specs.Arrays.{madeOf, ItemsLie, stopOf}
+use Rattle.engine.proofs.Stacked.{blank, stackOf, stack-frame, segment, segment-frame, segment-lowest, stack-segment}
 
 pub none-made : (e : Entry) → madeOf (record { ok = false; entry = e }) ≡ none
 unfolding madeOf
@@ -103,74 +102,164 @@ module _ (t : List ℕ) (p : ℕ) where
   unfolding behindItem
   fact-lies l e = rw (e) at l
 
+-- the first of the items that are left, and the rest
+module _ (t : List ℕ) (at left : ℕ) (l : ItemsLie t at left) (h : 0 < left) where
+  first-lies : (at < length t) × (behindItem t at ≤ length t)
+  first-lies = let w = lie-first t at left h l in (w .0, w .1 .0)
+
+  first-reads : (isFact t at ≡ true → at + 46 ≤ length t) × (at < length t)
+  first-reads = (fact-lies t at (first-lies .1), first-lies .0)
+
+  rest-lies : {next : ℕ} → next ≡ behindItem t at → ItemsLie t next (left - 1)
+  rest-lies q = subst (λ (x : ℕ). ItemsLie t x (left - 1)) (sym q) (lie-first t at left h l .1 .1)
+
+module _ (b : Binding) (t : List ℕ) (at left : ℕ) (h : 0 < left) where
+  first-and-rest : bodyEntries b (itemsFrom t at left) ≡ consEntry (itemEntry b (itemAt t at)) (bodyEntries b (itemsFrom t (behindItem t at) (left - 1)))
+  unfolding bodyEntries
+  first-and-rest = rw (items-first t at left h)
+
+  module _ (m : Made) (me : madeOf m ≡ itemEntry b (itemAt t at)) where
+    first-made : m .ok ≡ true → {next : ℕ} → next ≡ behindItem t at → bodyEntries b (itemsFrom t at left) ≡ consEntry (some (m .entry)) (bodyEntries b (itemsFrom t next (left - 1)))
+    unfolding madeOf
+    first-made y q = first-and-rest ∙ rw (← me, y, q) refl
+
+    first-not-made : m .ok ≡ false → bodyEntries b (itemsFrom t at left) ≡ none
+    unfolding madeOf
+    first-not-made f = first-and-rest ∙ rw (← me, f) refl
+
+-- as many entries as items
+Counts : ℕ → Option (List Entry) → Type 0
+Counts n none = Unit {0}
+Counts n (some body) = length body ≡ n
+
+entries-count : (b : Binding) (t : List ℕ) (p n : ℕ) → Counts n (bodyEntries b (itemsFrom t p n))
+unfolding Counts bodyEntries itemsFrom
+entries-count b t p zero = refl
+entries-count b t p (suc n) = go (itemEntry b (itemAt t p)) (bodyEntries b (itemsFrom t (behindItem t p) n)) (entries-count b t (behindItem t p) n)
+  where
+    go : (x : Option Entry) (o : Option (List Entry)) → Counts n o → Counts (suc n) (consEntry x o)
+    go none o k = tt
+    go (some e) none k = tt
+    go (some e) (some body) k = ap suc k
+
+pub body-count : (b : Binding) (t : List ℕ) (p n : ℕ) {body : List Entry} → bodyEntries b (itemsFrom t p n) ≡ some body → length body ≡ n
+unfolding Counts
+body-count b t p n e = subst (Counts n) e (entries-count b t p n)
+
+-- ---- whether all items have their values: an item that has them leaves the question to those behind it
+
+pub record Judging (b : Binding) (t : List ℕ) (p n full at left : ℕ) : Type 0 where
+  pub lies : ItemsLie t at left
+  pub same : stopOf full (bodyEntries b (itemsFrom t at left)) ≡ stopOf full (bodyEntries b (itemsFrom t p n))
+
+pub judge-first : (b : Binding) (t : List ℕ) (p n full : ℕ) → ItemsLie t p n → Judging b t p n full p n
+judge-first b t p n full l = record { lies = l; same = refl }
+
+module _ {b : Binding} {t : List ℕ} {p n full at left : ℕ} (r : Judging b t p n full at left) where
+  module _ (h : 0 < left) where
+    pub judged-lies : (at < length t) × (behindItem t at ≤ length t)
+    judged-lies = first-lies t at left (r .lies) h
+
+    pub judged-reads : (isFact t at ≡ true → at + 46 ≤ length t) × (at < length t)
+    judged-reads = first-reads t at left (r .lies) h
+
+    module _ (m : Made) (me : madeOf m ≡ itemEntry b (itemAt t at)) where
+      pub judge-stops : m .ok ≡ false → 4 ≡ stopOf full (bodyEntries b (itemsFrom t p n))
+      unfolding stopOf
+      judge-stops f = sym (ap (stopOf full) (first-not-made b t at left h m me f)) ∙ r .same
+
+      pub judge-more : m .ok ≡ true → {next : ℕ} → next ≡ behindItem t at → Judging b t p n full next (left - 1)
+      unfolding stopOf
+      judge-more y {next} q = record {
+        lies = rest-lies t at left (r .lies) h q;
+        same = sym (ap (stopOf full) (first-made b t at left h m me y q) ∙ passed (bodyEntries b (itemsFrom t next (left - 1)))) ∙ r .same;
+      }
+        where
+          passed : (o : Option (List Entry)) → stopOf full (consEntry (some (m .entry)) o) ≡ stopOf full o
+          passed none = refl
+          passed (some body) = refl
+
+  pub judge-done : left ≤ 0 → full ≡ stopOf full (bodyEntries b (itemsFrom t p n))
+  unfolding stopOf bodyEntries itemsFrom
+  judge-done h = let z : left ≡ 0 = omega arith in rw z at (r .same)
+
+-- ---- the items, each written to its place
+
 -- the entries so far, before what is left of the body
-abbrev pub after : List Entry → Option (List Entry) → Option (List Entry)
+abbrev after : List Entry → Option (List Entry) → Option (List Entry)
 after xs none = none
 after xs (some ys) = some (xs ++ ys)
+
+none-before : (o : Option (List Entry)) → after [] o ≡ o
+none-before none = refl
+none-before (some ys) = refl
 
 after-after : (xs : List Entry) (e : Entry) (o : Option (List Entry)) → after xs (consEntry (some e) o) ≡ after (xs ++ (e ∷ [])) o
 after-after xs e none = refl
 after-after xs e (some ys) = ap some (sym (append-assoc xs (e ∷ []) ys))
 
-pub record Working (b : Binding) (t : List ℕ) (p n : ℕ) (body : Body) (at i : ℕ) : Type 0 where
-  pub fine : body .ok ≡ true
-  pub within : i ≤ n
-  pub few : n ≤ 4
-  pub long : length (body .entries) ≡ 4
-  pub lies : ItemsLie t at (n - i)
-  pub same : after (take i (body .entries)) (bodyEntries b (itemsFrom t at (n - i))) ≡ bodyEntries b (itemsFrom t p n)
+-- the entries in their places, before what is left of the body, are the whole body; what lies under them is as it was
+pub record Pushing (b : Binding) (t : List ℕ) (p n : ℕ) (es₀ : List Entry) (under : ℕ) (es : List Entry) (at left : ℕ) : Type 0 where
+  pub within : left ≤ n
+  pub long : length es ≡ 256
+  pub room : under + n ≤ 256
+  pub lies : ItemsLie t at left
+  pub same : after (segment es (under + left) (n - left)) (bodyEntries b (itemsFrom t at left)) ≡ bodyEntries b (itemsFrom t p n)
+  pub below : stackOf es under ≡ stackOf es₀ under
 
-module _ (b : Binding) (t : List ℕ) (p n : ℕ) where
-  pub work-none : (x : Entry) → n ≤ 4 → ItemsLie t p n → Working b t p n (record { ok = true; entries = replicate 4 x }) p 0
-  work-none x f l =
-      let e : n - 0 ≡ n = omega arith in
-      record { fine = refl; within = omega arith; few = f; long = rw length-replicate; lies = rw e l; same = rw e (none-before (bodyEntries b (itemsFrom t p n))) }
-    where
-      none-before : (o : Option (List Entry)) → after [] o ≡ o
-      none-before none = refl
-      none-before (some ys) = refl
+pub push-none : (b : Binding) (t : List ℕ) (p n : ℕ) (es : List Entry) (under : ℕ) → length es ≡ 256 → under + n ≤ 256 → ItemsLie t p n → Pushing b t p n es under es p n
+unfolding segment
+push-none b t p n es under w h l =
+    let e : n - n ≡ 0 = omega arith in
+    record { within = omega arith; long = w; room = h; lies = l; same = rw e (none-before (bodyEntries b (itemsFrom t p n))); below = refl }
 
-  module _ {body : Body} {at i : ℕ} (r : Working b t p n body at i) where
-    pub item-lies : i < n → (at < length t) × (behindItem t at ≤ length t)
-    item-lies h = let l = lie-first t at (n - i) (omega arith) (r .lies) in (l .0, l .1 .0)
+module _ {b : Binding} {t : List ℕ} {p n : ℕ} {es₀ : List Entry} {under : ℕ} {es : List Entry} {at left : ℕ} (r : Pushing b t p n es₀ under es at left) where
+  module _ (h : 0 < left) where
+    pub pushed-lies : (at < length t) × (behindItem t at ≤ length t)
+    pushed-lies = first-lies t at left (r .lies) h
 
-    pub item-reads : i < n → (isFact t at ≡ true → at + 46 ≤ length t) × (at < length t)
-    item-reads h = let l = lie-first t at (n - i) (omega arith) (r .lies) in (fact-lies t at (l .1 .0), l .0)
+    pub pushed-reads : (isFact t at ≡ true → at + 46 ≤ length t) × (at < length t)
+    pushed-reads = first-reads t at left (r .lies) h
 
-    left-is : i < n → bodyEntries b (itemsFrom t at (n - i)) ≡ consEntry (itemEntry b (itemAt t at)) (bodyEntries b (itemsFrom t (behindItem t at) (n - (i + 1))))
-    unfolding bodyEntries
-    left-is h =
-        let e : n - i - 1 ≡ n - (i + 1) = omega arith in
-        rw (items-first t at (n - i) (omega arith), e)
+    -- an entry at the place below those that are written
+    segment-more : (e : Entry) → segment (set es (under + (left - 1)) e) (under + (left - 1)) (n - (left - 1)) ≡ segment es (under + left) (n - left) ++ (e ∷ [])
+    segment-more e =
+        let u : ℕ = under + (left - 1) in
+        let k : n - (left - 1) ≡ suc (n - left) = omega (arith, r .within) in
+        let v : suc (under + (left - 1)) ≡ under + left = omega arith in
+        let less : under + (left - 1) < under + left = omega arith in
+        let inside : under + (left - 1) < length es = omega (arith, r .within, r .long, r .room) in
+        ap (segment (set es u e) u) k
+        ∙ segment-lowest (set es u e) u (n - left)
+        ∙ ap (λ (x : ℕ). segment (set es u e) x (n - left) ++ (getD (set es u e) u blank ∷ [])) v
+        ∙ ap (λ (x : Entry). segment (set es u e) (under + left) (n - left) ++ (x ∷ [])) (getD-set-same es u e blank inside)
+        ∙ ap (λ (x : List Entry). x ++ (e ∷ [])) (segment-frame es u e (under + left) (n - left) less)
 
-    module _ (h : i < n) (m : Made) (me : madeOf m ≡ itemEntry b (itemAt t at)) where
-      left-more : m .ok ≡ true → bodyEntries b (itemsFrom t at (n - i)) ≡ consEntry (some (m .entry)) (bodyEntries b (itemsFrom t (behindItem t at) (n - (i + 1))))
-      unfolding madeOf
-      left-more y1 = left-is h ∙ rw (← me, y1) refl
+    module _ (m : Made) (me : madeOf m ≡ itemEntry b (itemAt t at)) where
+      pub push-stops : m .ok ≡ false → bodyEntries b (itemsFrom t p n) ≡ none
+      push-stops f = sym (r .same) ∙ ap (after (segment es (under + left) (n - left))) (first-not-made b t at left h m me f)
 
-      pub work-stops : m .ok ≡ false → WorkedOut n (record { ok = false; entries = body .entries }) (bodyEntries b (itemsFrom t p n))
-      unfolding madeOf bodyOf
-      work-stops f = record { made = sym (rw (left-is h, ← me, f) refl) ∙ r .same; whole = r .long }
+      pub push-more : m .ok ≡ true → {next : ℕ} → next ≡ behindItem t at → Pushing b t p n es₀ under (set es (under + (left - 1)) (m .entry)) next (left - 1)
+      push-more y {next} q = record {
+        within = omega (arith, r .within);
+        long = length-set es (under + (left - 1)) (m .entry) ∙ r .long;
+        room = r .room;
+        lies = rest-lies t at left (r .lies) h q;
+        same =
+            ap (λ (x : List Entry). after x (bodyEntries b (itemsFrom t next (left - 1)))) (segment-more (m .entry))
+            ∙ sym (after-after (segment es (under + left) (n - left)) (m .entry) (bodyEntries b (itemsFrom t next (left - 1))))
+            ∙ sym (ap (after (segment es (under + left) (n - left))) (first-made b t at left h m me y q)) ∙ r .same;
+        below = stack-frame es (under + (left - 1)) (m .entry) under (omega arith) ∙ r .below;
+      }
 
-      pub work-more : m .ok ≡ true → {next : ℕ} → next ≡ behindItem t at → Working b t p n (record { ok = body .ok; entries = set (body .entries) i (m .entry) }) next (i + 1)
-      unfolding madeOf
-      work-more y1 {next} q =
-          let w : i < length (body .entries) = omega (arith, r .long, r .few) in
-          record {
-            fine = r .fine;
-            within = omega arith;
-            few = r .few;
-            long = rw (length-set, r .long);
-            lies = let e : n - i - 1 ≡ n - (i + 1) = omega arith in rw q (rw e at (lie-first t at (n - i) (omega arith) (r .lies) .1 .1));
-            same =
-                rw (add-one i, take-suc-set (body .entries) i (m .entry) w, ← add-one i, q)
-                (sym (after-after (take i (body .entries)) (m .entry) (bodyEntries b (itemsFrom t (behindItem t at) (n - (i + 1)))))
-                ∙ sym (ap (after (take i (body .entries))) (left-more y1)) ∙ r .same);
-          }
+  module _ (h : left ≤ 0) where
+    pub push-done : bodyEntries b (itemsFrom t p n) ≡ some (segment es under n)
+    unfolding bodyEntries itemsFrom
+    push-done =
+        let z : left ≡ 0 = omega arith in
+        let u : under + left ≡ under = omega arith in
+        let k : n - left ≡ n = omega arith in
+        sym (rw (u, k, z) at (r .same)) ∙ ap some (append-nil (segment es under n))
 
-    pub work-done : n ≤ i → WorkedOut n body (bodyEntries b (itemsFrom t p n))
-    unfolding bodyOf bodyEntries itemsFrom
-    work-done h =
-        let e : i ≡ n = omega (arith, r .within) in
-        let z : n - i ≡ 0 = omega arith in
-        record { made = rw (r .fine) (ap some (sym (append-nil (take n (body .entries))) ∙ ap (λ (k : ℕ). take k (body .entries) ++ []) (sym e)) ∙ (rw z at (r .same))); whole = r .long }
+    pub push-stack : stackOf es (under + n) ≡ segment es under n ++ stackOf es₀ under
+    push-stack = stack-segment es under n ∙ ap (λ (x : List Entry). segment es under n ++ x) (r .below)

@@ -1,12 +1,12 @@
 -- What the arrays of a run stand for in the definition.
 use Prim.Native.Nat.{ℕ, zero, suc, _+_, _-_, _*_, _≤_, _<_}
 use mathlib.Core.Path.{_≡_}
-use mathlib.Core.Bool.{Bool, true, false, cond}
+use mathlib.Core.Bool.{cond}
 use mathlib.Core.Option.{Option, none, some}
-use mathlib.Core.List.{List, [], _∷_, map}
+use mathlib.Core.List.{List}
 use lib.Dec.{eqb, leb, ltb}
-use lib.IntN.{ℤ, pos}
-use lib.ListN.{getD, set, take, length, replicate}
+use lib.IntN.{ℤ}
+use lib.ListN.{set, length}
 use Rattle.model.specs.declared.Entry.{Entry}
 use Rattle.model.specs.declared.Fact.{Fact}
 use Rattle.model.specs.declared.Stored.{Stored}
@@ -23,9 +23,8 @@ use Rattle.model.specs.Calls.{RunOutput}
 use Rattle.places.specs.Listing.{Listed}
 use Rattle.search.specs.Views.{rowsFrom}
 use Rattle.engine.specs.declared.Made.{Made}
-use Rattle.engine.specs.declared.Body.{Body}
 
--- ---- a body that is worked out
+-- ---- the items of a body
 
 -- n body items from p on lie in the table
 abbrev pub ItemsLie : List ℕ → ℕ → ℕ → Type 0
@@ -35,14 +34,10 @@ ItemsLie t p (suc n) = (p < length t) × ((behindItem t p ≤ length t) × Items
 unfoldable pub madeOf : Made → Option Entry
 madeOf m = cond (m .ok) (some (m .entry)) none
 
--- the first n entries of a body
-unfoldable pub bodyOf : ℕ → Body → Option (List Entry)
-bodyOf n b = cond (b .ok) (some (take n (b .entries))) none
-
--- the body of n items, worked out
-pub record WorkedOut (n : ℕ) (w : Body) (entries : Option (List Entry)) : Type 0 where
-  pub made : bodyOf n w ≡ entries
-  pub whole : length (w .entries) ≡ 4
+-- how a firing without room stops: 4, an argument without a value, goes before what it has no room in
+unfoldable pub stopOf : ℕ → Option (List Entry) → ℕ
+stopOf full none = 4
+stopOf full (some body) = full
 
 -- ---- the store's columns
 
@@ -68,14 +63,12 @@ putAt c j x = record { symbols = set (c .symbols) j (x .fact .symbol .0); ids = 
 unfoldable pub baseOf : ℕ → ℕ → ℕ → ℕ
 baseOf kept head depth = cond (leb kept head) (depth - 1) depth
 
--- 4, 6, 7, or 0 where the firing has room: the body has its values, the stack and the history keep their rooms
-unfoldable pub roomOf : Bool → ℕ → RuleShape → ℕ → ℕ
-roomOf ok base r noted =
-    cond ok
-    (cond (leb (base + r .items) stackRoom)
+-- 6, 7, or 0 where the firing has room: the stack and the history keep their rooms
+unfoldable pub roomOf : ℕ → RuleShape → ℕ → ℕ
+roomOf base r noted =
+    cond (leb (base + r .items) stackRoom)
     (cond (eqb (r .kept) (r .heads)) (cond (ltb noted historyRoom) 0 7) 0)
-    6)
-    4
+    6
 
 -- ---- the steps of a run
 

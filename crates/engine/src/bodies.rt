@@ -1,5 +1,4 @@
-// The body of a rule, worked out before anything is pushed.
-use crate::Body;
+// The items of a rule's body: the entry of each, and whether all have their values.
 use crate::Made;
 use model::Entry;
 use model::Fact;
@@ -14,7 +13,7 @@ ghost use lib.ListN.{length};
 ghost use Rattle.model.specs.Steps.{itemEntry, bodyEntries};
 ghost use Rattle.model.specs.Table.{itemAt, isFact, bodyFactAt, behindItem, itemsFrom};
 ghost use Rattle.search.specs.Views.{bindingOf};
-ghost use Rattle.engine.specs.Arrays.{madeOf, ItemsLie, WorkedOut};
+ghost use Rattle.engine.specs.Arrays.{madeOf, ItemsLie, stopOf};
 
 fn not_made() -> Made
     ensures { λ r. ⌜ madeOf r ≡ none ⌝ }
@@ -74,38 +73,28 @@ pub fn item_entry(t: &[u8], p: usize, values: &[i32; 16], bound: &[bool; 16]) ->
 }
 
 // Where the record behind a body item starts.
-fn behind_item(t: &[u8], p: usize) -> usize
+pub fn behind_item(t: &[u8], p: usize) -> usize
     requires { ⌜ (p < length (now t)) × (behindItem (now t) p ≤ length (now t)) ⌝ }
     ensures { λ r. ⌜ r ≡ behindItem (now (t .entry)) p ⌝ }
 {
     if t[p] == 6 { p + 46 } else { p + 1 }
 }
 
-// The n items from p on, worked out in order up to the first argument that has no value.
-pub fn work_out(t: &[u8], p: usize, n: usize, values: &[i32; 16], bound: &[bool; 16]) -> Body
-    requires { ⌜ (n ≤ 4) × ItemsLie (now t) p n ⌝ }
-    ensures { λ r. ⌜ WorkedOut n r (bodyEntries (bindingOf (now (values .entry)) (now (bound .entry))) (itemsFrom (now (t .entry)) p n)) ⌝ }
+// How a firing without room stops: 4 where an argument of the n items from p on has no value, else `full`.
+pub fn stop_of(t: &[u8], p: usize, n: usize, values: &[i32; 16], bound: &[bool; 16], full: u8) -> u8
+    requires { ⌜ ItemsLie (now t) p n ⌝ }
+    ensures { λ r. ⌜ r ≡ stopOf full (bodyEntries (bindingOf (now (values .entry)) (now (bound .entry))) (itemsFrom (now (t .entry)) p n)) ⌝ }
 {
-    let none = Entry::empty();
-    let mut body = Body {
-        ok: true,
-        entries: [none; 4],
-    };
     let mut at = p;
-    let mut i: usize = 0;
-    while i < n {
+    let mut left = n;
+    while 0 < left {
         let here = at;
-        let k = i;
-        i += 1;
+        left -= 1;
         at = behind_item(t, here);
         let made = item_entry(t, here, values, bound);
-        let e = made.entry;
-        if made.ok {
-            body.entries[k] = e;
-        } else {
-            body.ok = false;
-            return body;
+        if made.ok {} else {
+            return 4;
         }
     }
-    body
+    full
 }

@@ -25,25 +25,22 @@ pub fn base(kept: u8, head: u8, depth: usize) -> usize
     if kept <= head { depth - 1 } else { depth }
 }
 
-// 4, 6, 7, or 0 where the firing has room.
-pub fn room(ok: bool, base: usize, shape: RuleShape, noted: usize) -> u8
+// 6, 7, or 0 where the firing has room.
+pub fn room(base: usize, shape: RuleShape, noted: usize) -> u8
     requires { ⌜ base ≤ 256 ⌝ }
-    ensures { λ r. ⌜ r ≡ roomOf ok base shape noted ⌝ }
+    ensures { λ r. ⌜ r ≡ roomOf base shape noted ⌝ }
 {
-    if ok {
-        let items = shape.items as usize;
-        if 256 < base + items {
-            return 6;
-        }
-        if shape.kept == shape.heads {
-            if noted < 256 {
-                return 0;
-            }
-            return 7;
-        }
-        return 0;
+    let items = shape.items as usize;
+    if 256 < base + items {
+        return 6;
     }
-    4
+    if shape.kept == shape.heads {
+        if noted < 256 {
+            return 0;
+        }
+        return 7;
+    }
+    0
 }
 
 // The six numbers of a run's end.

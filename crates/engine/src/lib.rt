@@ -24,12 +24,6 @@ pub struct Made {
     pub entry: Entry,
 }
 
-// A body worked out: its entries, where all its arguments have values.
-pub struct Body {
-    pub ok: bool,
-    pub entries: [Entry; 4],
-}
-
 fn no_starts() -> [u16; 33]
     ensures { λ r. ⌜ r ≡ replicate 33 0 ⌝ }
 {

@@ -136,16 +136,18 @@ pub fn take<'a>(
                                 let all = shape.heads as usize;
                                 let items = shape.items as usize;
                                 let start = crate::firing::items_start(t, shape);
-                                let body = crate::bodies::work_out(
-                                    t,
-                                    start,
-                                    items,
-                                    &values,
-                                    &bound,
-                                );
                                 let under = crate::firing::base(shape.kept, place.head, depth);
-                                let stop = crate::firing::room(body.ok, under, shape, noted);
-                                if stop != 0 {
+                                let full = crate::firing::room(under, shape, noted);
+                                if full != 0 {
+                                    // 4 goes before 6 and 7.
+                                    let stop = crate::bodies::stop_of(
+                                        t,
+                                        start,
+                                        items,
+                                        &values,
+                                        &bound,
+                                        full,
+                                    );
                                     return crate::firing::ended(
                                         stop,
                                         number,
@@ -155,16 +157,31 @@ pub fn take<'a>(
                                         count,
                                     );
                                 }
-                                let more = firings + 1;
-                                firings = more;
-                                depth = under;
+                                // Each item goes straight to its place, the first on top.
+                                let mut at = start;
                                 let mut left = items;
                                 while 0 < left {
+                                    let here = at;
                                     left -= 1;
-                                    let pushed = body.entries[left];
-                                    entries[depth] = pushed;
-                                    depth += 1;
+                                    at = crate::bodies::behind_item(t, here);
+                                    let made = crate::bodies::item_entry(t, here, &values, &bound);
+                                    let pushed = made.entry;
+                                    if made.ok {
+                                        entries[under + left] = pushed;
+                                    } else {
+                                        return crate::firing::ended(
+                                            4,
+                                            number,
+                                            used,
+                                            firings,
+                                            given,
+                                            count,
+                                        );
+                                    }
                                 }
+                                let more = firings + 1;
+                                firings = more;
+                                depth = under + items;
                                 if kept == all {
                                     past[noted] = search::history::entry(rule, &chosen, all);
                                     noted += 1;

@@ -1,5 +1,5 @@
--- `engine::firing::room` meets its contract: the tests stand in the order 4, 6, 7.
-use Rattle.engine.proofs.Roomy.{room-4, room-6, room-0, room-7, room-removes}
+-- `engine::firing::room` meets its contract: the tests stand in the order 6, 7.
+use Rattle.engine.proofs.Roomy.{room-6, room-0, room-7, room-removes}
 use borrow.Author.Needs.{needs}
 use Rattle.engine.proofs.firing.room.Statement.{statement}
 use Rattle.engine.proofs.firing.room.Tie as tie
@@ -7,8 +7,8 @@ use Rattle.engine.proofs.firing.room.Tie as tie
 cast-items : tie.Need-cast-items
 cast-items c = search needs
 
-add-if2 : tie.Need-add-if2
-add-if2 c = search needs
+add-if1 : tie.Need-add-if1
+add-if1 c = search needs
 
 returns : tie.Need-returns
 returns c = search room-6
@@ -22,8 +22,5 @@ returns-3 c = search room-7
 returns-4 : tie.Need-returns-4
 returns-4 c = search room-removes
 
-returns-5 : tie.Need-returns-5
-returns-5 c = search room-4
-
 pub room-spec : {M : Type 1} → statement M
-room-spec = tie.close (tie.spec cast-items add-if2 returns returns-2 returns-3 returns-4 returns-5)
+room-spec = tie.close (tie.spec cast-items add-if1 returns returns-2 returns-3 returns-4)

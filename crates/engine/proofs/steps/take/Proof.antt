@@ -1,14 +1,16 @@
--- `engine::steps::take` meets its contract: each turn of the loop is the definition's step, so that what is left of the run equals the whole; a firing pushes the body, then puts the firing down or leaves the removed facts out in place.
+-- `engine::steps::take` meets its contract: each turn of the loop is the definition's step, so that what is left of the run equals the whole; a firing writes each item of the body to its place, then puts the firing down or leaves the removed facts out in place.
 use mathlib.Core.Path.{refl}
 use Prim.Native.Nat.{_-_}
 use native.Mathlib.Omega.{arith}
-use lib.ListN.{take, drop}
+use lib.ListN.{drop}
 use Rattle.model.specs.Goal.{goalOf}
-use Rattle.search.specs.Views.{idsOf}
+use Rattle.search.specs.Views.{idsOf, bindingOf}
 use Rattle.engine.specs.Arrays.{columnsOf}
 use Rattle.engine.proofs.Rows.{Leaving, leave-none, leave-out, leave-there, leave-in}
-use Rattle.engine.proofs.Stacked.{Loading, load-none, Pushing, push-none, push-more}
-use Rattle.engine.proofs.Running.{Running, done, out-of-steps, failed, full, activates, drops, rule-few, occurrence-few, base-few, work-lies, posed, place-good, no-value, defaults, no-room, stack-room, history-room, propagates, simplifies}
+use Rattle.engine.proofs.Stacked.{Loading, load-none}
+use Rattle.engine.proofs.Worked.{Pushing, push-none, pushed-lies, pushed-reads, push-more, push-stops}
+use Rattle.engine.proofs.Roomy.{stack-room, history-room}
+use Rattle.engine.proofs.Running.{Running, done, out-of-steps, failed, full, activates, drops, rule-few, occurrence-few, base-few, work-lies, posed, place-good, no-value, defaults, undefined, no-room, propagates, simplifies}
 use Rattle.engine.proofs.Beginning.{by-result, begun-table, begun-goal, shape-is, fact-in, load-goal, begins}
 use borrow.Author.Needs.{needs}
 use Rattle.engine.proofs.steps.take.Statement.{statement}
@@ -23,19 +25,19 @@ abbrev μ-loop : tie.MeasureT-loop
     n - i
 
 abbrev Inv-loop3 : tie.InvT-loop3
-Inv-loop3 t goal limit first rules heads symbols ids args reading entries₀ facts past n i depth₀ count noted given firings k used top j rule number at chosen kept all items start body under stop more left₀ entries depth left =
-    Pushing (take items (body .entries)) entries₀ under entries depth left
+Inv-loop3 t goal limit first rules heads symbols ids args reading entries₀ facts past n i depth count noted given firings k used top j rule number index chosen values bound kept all items start under full at₀ left₀ entries at left =
+    Pushing (bindingOf values bound) t start items entries₀ under entries at left
 
 abbrev μ-loop3 : tie.MeasureT-loop3
-μ-loop3 t goal limit first rules heads symbols ids args reading entries₀ facts past n i depth₀ count noted given firings k used top j rule number at chosen kept all items start body under stop more left₀ entries depth left =
+μ-loop3 t goal limit first rules heads symbols ids args reading entries₀ facts past n i depth count noted given firings k used top j rule number index chosen values bound kept all items start under full at₀ left₀ entries at left =
     left
 
 abbrev Inv-loop4 : tie.InvT-loop4
-Inv-loop4 t goal limit first rules heads symbols₀ ids₀ args₀ reading entries facts₀ past n i depth count noted given firings k used top j number at chosen kept all items start under stop more left to₀ row₀ symbols ids args facts to row =
+Inv-loop4 t goal limit first rules heads symbols₀ ids₀ args₀ reading entries facts₀ past n i depth count noted given firings k used top j number index chosen kept all items start under full at left more to₀ row₀ symbols ids args facts to row =
     Leaving (drop kept (idsOf all chosen)) facts₀ count facts (columnsOf symbols ids args) to row
 
 abbrev μ-loop4 : tie.MeasureT-loop4
-μ-loop4 t goal limit first rules heads symbols₀ ids₀ args₀ reading entries facts₀ past n i depth count noted given firings k used top j number at chosen kept all items start under stop more left to₀ row₀ symbols ids args facts to row =
+μ-loop4 t goal limit first rules heads symbols₀ ids₀ args₀ reading entries facts₀ past n i depth count noted given firings k used top j number index chosen kept all items start under full at left more to₀ row₀ symbols ids args facts to row =
     count - row
 
 abbrev Inv-loop2 : tie.InvT-loop2
@@ -342,25 +344,17 @@ items-start-requires :
     μ-loop2
 items-start-requires c κs = place-good (c .before .before .before .before .before .before .before .before .before .before .before .before .before .before .before .before .before .before .before .before .before .before .before .before .before .before .loop2 .inv) (c .before .before .before .before .before .before .before .before .before .before .before .before .before .before .before .before .before .before .before .before .before .before .before .before .before .loop2-test .taken) (c .before .before .before .before .before .before .before .before .before .before .before .before .before .before .before .before .before .before .before .before .before .before .before .before .if1 .left) (begun-table (c .before .before .before .before .before .before .before .before .before .before .before .before .before .before .before .before .before .before .before .before .before .before .before .before .before .before .before .before .before .before .before .before .before .before .pre)) (c .before .before .before .before .before .before .before .before .before .before .before .before .before .before .before .before .before .before .before .before .item2 .given .1) _ (c .before .before .before .before .before .before .before .before .before .before .before .before .before .before .before .before .before .before .place-of .ensures) (c .before .before .before .before .before .before .before .before .before .before .before .before .before .before .before .before .found .given .1) _ (shape-is (c .before .before .before .before .before .before .before .before .before .before .before .before .before .before .before .before .before .before .before .before .before .before .before .before .before .before .before .before .before .before .before .before .before .before .pre) (c .before .before .before .before .before .before .before .before .before .before .before .before .before .before .before .before .found .given .0 .0)) .good .partsIn
 
-work-out-requires :
-    tie.Need-work-out-requires
-    Inv-loop
-    μ-loop
-    Inv-loop3
-    μ-loop3
-    Inv-loop4
-    μ-loop4
-    Inv-loop2
-    μ-loop2
-work-out-requires c κs = (place-good (c .before .before .before .before .before .before .before .before .before .before .before .before .before .before .before .before .before .before .before .before .before .before .before .before .before .before .before .before .before .loop2 .inv) (c .before .before .before .before .before .before .before .before .before .before .before .before .before .before .before .before .before .before .before .before .before .before .before .before .before .before .before .before .loop2-test .taken) (c .before .before .before .before .before .before .before .before .before .before .before .before .before .before .before .before .before .before .before .before .before .before .before .before .before .before .before .if1 .left) (begun-table (c .before .before .before .before .before .before .before .before .before .before .before .before .before .before .before .before .before .before .before .before .before .before .before .before .before .before .before .before .before .before .before .before .before .before .before .before .before .pre)) (c .before .before .before .before .before .before .before .before .before .before .before .before .before .before .before .before .before .before .before .before .before .before .before .item2 .given .1) _ (c .before .before .before .before .before .before .before .before .before .before .before .before .before .before .before .before .before .before .before .before .before .place-of .ensures) (c .before .before .before .before .before .before .before .before .before .before .before .before .before .before .before .before .before .before .before .found .given .1) _ (shape-is (c .before .before .before .before .before .before .before .before .before .before .before .before .before .before .before .before .before .before .before .before .before .before .before .before .before .before .before .before .before .before .before .before .before .before .before .before .before .pre) (c .before .before .before .before .before .before .before .before .before .before .before .before .before .before .before .before .before .before .before .found .given .0 .0)) .good .fewItems, work-lies (place-good (c .before .before .before .before .before .before .before .before .before .before .before .before .before .before .before .before .before .before .before .before .before .before .before .before .before .before .before .before .before .loop2 .inv) (c .before .before .before .before .before .before .before .before .before .before .before .before .before .before .before .before .before .before .before .before .before .before .before .before .before .before .before .before .loop2-test .taken) (c .before .before .before .before .before .before .before .before .before .before .before .before .before .before .before .before .before .before .before .before .before .before .before .before .before .before .before .if1 .left) (begun-table (c .before .before .before .before .before .before .before .before .before .before .before .before .before .before .before .before .before .before .before .before .before .before .before .before .before .before .before .before .before .before .before .before .before .before .before .before .before .pre)) (c .before .before .before .before .before .before .before .before .before .before .before .before .before .before .before .before .before .before .before .before .before .before .before .item2 .given .1) _ (c .before .before .before .before .before .before .before .before .before .before .before .before .before .before .before .before .before .before .before .before .before .place-of .ensures) (c .before .before .before .before .before .before .before .before .before .before .before .before .before .before .before .before .before .before .before .found .given .1) _ (shape-is (c .before .before .before .before .before .before .before .before .before .before .before .before .before .before .before .before .before .before .before .before .before .before .before .before .before .before .before .before .before .before .before .before .before .before .before .before .before .pre) (c .before .before .before .before .before .before .before .before .before .before .before .before .before .before .before .before .before .before .before .found .given .0 .0))) (c .before .before .items-start .ensures))
-
 base-requires :
     tie.Need-base-requires Inv-loop μ-loop Inv-loop3 μ-loop3 Inv-loop4 μ-loop4 Inv-loop2 μ-loop2
-base-requires c κs = omega (arith, c .before .before .before .before .before .before .before .before .before .before .before .before .before .before .before .before .before .before .before .before .before .before .before .before .before .before .before .before .if1 .left)
+base-requires c κs = omega (arith, c .before .before .before .before .before .before .before .before .before .before .before .before .before .before .before .before .before .before .before .before .before .before .before .before .before .if1 .left)
 
 room-requires :
     tie.Need-room-requires Inv-loop μ-loop Inv-loop3 μ-loop3 Inv-loop4 μ-loop4 Inv-loop2 μ-loop2
-room-requires c κs = base-few _ _ _ (c .base .ensures) (c .before .before .before .before .before .before .before .before .before .before .before .before .before .before .before .before .before .before .before .before .before .before .before .before .before .before .before .before .before .before .before .loop2 .inv .deep)
+room-requires c κs = base-few _ _ _ (c .base .ensures) (c .before .before .before .before .before .before .before .before .before .before .before .before .before .before .before .before .before .before .before .before .before .before .before .before .before .before .before .before .loop2 .inv .deep)
+
+stop-of-requires :
+    tie.Need-stop-of-requires Inv-loop μ-loop Inv-loop3 μ-loop3 Inv-loop4 μ-loop4 Inv-loop2 μ-loop2
+stop-of-requires c κs = work-lies (place-good (c .before .before .before .before .before .before .before .before .before .before .before .before .before .before .before .before .before .before .before .before .before .before .before .before .before .before .before .before .before .before .before .before .loop2 .inv) (c .before .before .before .before .before .before .before .before .before .before .before .before .before .before .before .before .before .before .before .before .before .before .before .before .before .before .before .before .before .before .before .loop2-test .taken) (c .before .before .before .before .before .before .before .before .before .before .before .before .before .before .before .before .before .before .before .before .before .before .before .before .before .before .before .before .before .before .if1 .left) (begun-table (c .before .before .before .before .before .before .before .before .before .before .before .before .before .before .before .before .before .before .before .before .before .before .before .before .before .before .before .before .before .before .before .before .before .before .before .before .before .before .before .before .pre)) (c .before .before .before .before .before .before .before .before .before .before .before .before .before .before .before .before .before .before .before .before .before .before .before .before .before .before .item2 .given .1) _ (c .before .before .before .before .before .before .before .before .before .before .before .before .before .before .before .before .before .before .before .before .before .before .before .before .place-of .ensures) (c .before .before .before .before .before .before .before .before .before .before .before .before .before .before .before .before .before .before .before .before .before .before .found .given .1) _ (shape-is (c .before .before .before .before .before .before .before .before .before .before .before .before .before .before .before .before .before .before .before .before .before .before .before .before .before .before .before .before .before .before .before .before .before .before .before .before .before .before .before .before .pre) (c .before .before .before .before .before .before .before .before .before .before .before .before .before .before .before .before .before .before .before .before .before .before .found .given .0 .0))) (c .before .before .before .before .before .items-start .ensures)
 
 ended-requires-4 :
     tie.Need-ended-requires-4 Inv-loop μ-loop Inv-loop3 μ-loop3 Inv-loop4 μ-loop4 Inv-loop2 μ-loop2
@@ -368,37 +362,30 @@ ended-requires-4 c κs = c .before .before .before .before .before .before .befo
 
 returns-4 :
     tie.Need-returns-4 Inv-loop μ-loop Inv-loop3 μ-loop3 Inv-loop4 μ-loop4 Inv-loop2 μ-loop2
-returns-4 c = by-result (c .ended4 .ensures) (no-room (c .before .before .before .before .before .before .before .before .before .before .before .before .before .before .before .before .before .before .before .before .before .before .before .before .before .before .before .before .before .before .before .before .before .before .loop2 .inv) (c .before .before .before .before .before .before .before .before .before .before .before .before .before .before .before .before .before .before .before .before .before .before .before .before .before .before .before .before .before .before .before .before .before .loop2-test .taken) (c .before .before .before .before .before .before .before .before .before .before .before .before .before .before .before .before .before .before .before .before .before .before .before .before .before .before .before .before .before .before .before .before .if1 .left) (begun-table (c .before .before .before .before .before .before .before .before .before .before .before .before .before .before .before .before .before .before .before .before .before .before .before .before .before .before .before .before .before .before .before .before .before .before .before .before .before .before .before .before .before .before .pre)) (c .before .before .before .before .before .before .before .before .before .before .before .before .before .before .before .before .before .before .before .before .before .before .before .before .before .before .before .before .item2 .given .1) _ (c .before .before .before .before .before .before .before .before .before .before .before .before .before .before .before .before .before .before .before .before .before .before .before .before .before .before .place-of .ensures) (c .before .before .before .before .before .before .before .before .before .before .before .before .before .before .before .before .before .before .before .before .before .before .before .before .found .given .1) _ (shape-is (c .before .before .before .before .before .before .before .before .before .before .before .before .before .before .before .before .before .before .before .before .before .before .before .before .before .before .before .before .before .before .before .before .before .before .before .before .before .before .before .before .before .before .pre) (c .before .before .before .before .before .before .before .before .before .before .before .before .before .before .before .before .before .before .before .before .before .before .before .before .found .given .0 .0)) refl (c .before .before .before .before .before .before .before .before .before .before .before .before .before .first-instance .ensures) (c .before .before .before .before .before .before .before .before .before .before .before .enum-told4 .given .1) _ (c .before .before .before .before .before .before .before .items-start .ensures) (c .before .before .before .before .work-out .ensures) (c .before .before .before .base .ensures) (c .before .before .room .ensures) (c .before .if3 .taken))
-
-add-more : tie.Need-add-more Inv-loop μ-loop Inv-loop3 μ-loop3 Inv-loop4 μ-loop4 Inv-loop2 μ-loop2
-add-more c = omega (arith, c .before .before .before .before .before .before .before .before .before .before .before .before .before .before .before .before .before .before .before .before .before .before .before .before .before .before .before .before .before .before .before .before .before .loop2 .inv .firingsFew, c .before .before .before .before .before .before .before .before .before .before .before .before .before .before .before .before .before .before .before .before .before .before .before .before .before .before .before .before .before .before .before .before .before .loop2 .inv .legal, c .before .before .before .before .before .before .before .before .before .before .before .before .before .before .before .before .before .before .before .before .before .before .before .before .before .before .before .before .before .before .before .before .loop2-test .taken)
+returns-4 c = by-result (c .ended4 .ensures) (no-room (c .before .before .before .before .before .before .before .before .before .before .before .before .before .before .before .before .before .before .before .before .before .before .before .before .before .before .before .before .before .before .before .before .before .before .loop2 .inv) (c .before .before .before .before .before .before .before .before .before .before .before .before .before .before .before .before .before .before .before .before .before .before .before .before .before .before .before .before .before .before .before .before .before .loop2-test .taken) (c .before .before .before .before .before .before .before .before .before .before .before .before .before .before .before .before .before .before .before .before .before .before .before .before .before .before .before .before .before .before .before .before .if1 .left) (begun-table (c .before .before .before .before .before .before .before .before .before .before .before .before .before .before .before .before .before .before .before .before .before .before .before .before .before .before .before .before .before .before .before .before .before .before .before .before .before .before .before .before .before .before .pre)) (c .before .before .before .before .before .before .before .before .before .before .before .before .before .before .before .before .before .before .before .before .before .before .before .before .before .before .before .before .item2 .given .1) _ (c .before .before .before .before .before .before .before .before .before .before .before .before .before .before .before .before .before .before .before .before .before .before .before .before .before .before .place-of .ensures) (c .before .before .before .before .before .before .before .before .before .before .before .before .before .before .before .before .before .before .before .before .before .before .before .before .found .given .1) _ (shape-is (c .before .before .before .before .before .before .before .before .before .before .before .before .before .before .before .before .before .before .before .before .before .before .before .before .before .before .before .before .before .before .before .before .before .before .before .before .before .before .before .before .before .before .pre) (c .before .before .before .before .before .before .before .before .before .before .before .before .before .before .before .before .before .before .before .before .before .before .before .before .found .given .0 .0)) refl (c .before .before .before .before .before .before .before .before .before .before .before .before .before .first-instance .ensures) (c .before .before .before .before .before .before .before .before .before .before .before .enum-told4 .given .1) (c .before .before .before .before .before .before .before .items-start .ensures) (c .before .before .before .before .before .before .base .ensures) (c .before .before .before .before .before .room .ensures) (c .before .before .before .before .if3 .taken) (c .before .stop-of .ensures))
 
 loop3-holds :
     tie.Need-loop3-holds Inv-loop μ-loop Inv-loop3 μ-loop3 Inv-loop4 μ-loop4 Inv-loop2 μ-loop2
-loop3-holds c = push-none _ _ _ _ (c .before .before .before .work-out .ensures .whole) (place-good (c .before .before .before .before .before .before .before .before .before .before .before .before .before .before .before .before .before .before .before .before .before .before .before .before .before .before .before .before .before .before .before .before .before .loop2 .inv) (c .before .before .before .before .before .before .before .before .before .before .before .before .before .before .before .before .before .before .before .before .before .before .before .before .before .before .before .before .before .before .before .before .loop2-test .taken) (c .before .before .before .before .before .before .before .before .before .before .before .before .before .before .before .before .before .before .before .before .before .before .before .before .before .before .before .before .before .before .before .if1 .left) (begun-table (c .before .before .before .before .before .before .before .before .before .before .before .before .before .before .before .before .before .before .before .before .before .before .before .before .before .before .before .before .before .before .before .before .before .before .before .before .before .before .before .before .before .pre)) (c .before .before .before .before .before .before .before .before .before .before .before .before .before .before .before .before .before .before .before .before .before .before .before .before .before .before .before .item2 .given .1) _ (c .before .before .before .before .before .before .before .before .before .before .before .before .before .before .before .before .before .before .before .before .before .before .before .before .before .place-of .ensures) (c .before .before .before .before .before .before .before .before .before .before .before .before .before .before .before .before .before .before .before .before .before .before .before .found .given .1) _ (shape-is (c .before .before .before .before .before .before .before .before .before .before .before .before .before .before .before .before .before .before .before .before .before .before .before .before .before .before .before .before .before .before .before .before .before .before .before .before .before .before .before .before .before .pre) (c .before .before .before .before .before .before .before .before .before .before .before .before .before .before .before .before .before .before .before .before .before .before .before .found .given .0 .0)) .good .fewItems) (c .before .before .before .before .before .before .before .before .before .before .before .before .before .before .before .before .before .before .before .before .before .before .before .before .before .before .before .before .before .before .before .before .before .loop2 .inv .long) (stack-room (c .before .before .before .before .before .before .before .before .before .before .before .before .before .before .before .before .before .before .before .before .before .before .before .before .before .before .before .before .before .before .before .before .before .loop2 .inv) (c .before .before .before .before .before .before .before .before .before .before .before .before .before .before .before .before .before .before .before .before .before .before .before .before .before .before .before .before .before .before .before .before .loop2-test .taken) (c .before .before .before .before .before .before .before .before .before .before .before .before .before .before .before .before .before .before .before .before .before .before .before .before .before .before .before .before .before .before .before .if1 .left) (begun-table (c .before .before .before .before .before .before .before .before .before .before .before .before .before .before .before .before .before .before .before .before .before .before .before .before .before .before .before .before .before .before .before .before .before .before .before .before .before .before .before .before .before .pre)) (c .before .before .before .before .before .before .before .before .before .before .before .before .before .before .before .before .before .before .before .before .before .before .before .before .before .before .before .item2 .given .1) _ (c .before .before .before .before .before .before .before .before .before .before .before .before .before .before .before .before .before .before .before .before .before .before .before .before .before .place-of .ensures) (c .before .before .before .before .before .before .before .before .before .before .before .before .before .before .before .before .before .before .before .before .before .before .before .found .given .1) _ (shape-is (c .before .before .before .before .before .before .before .before .before .before .before .before .before .before .before .before .before .before .before .before .before .before .before .before .before .before .before .before .before .before .before .before .before .before .before .before .before .before .before .before .before .pre) (c .before .before .before .before .before .before .before .before .before .before .before .before .before .before .before .before .before .before .before .before .before .before .before .found .given .0 .0)) refl (c .before .before .before .before .before .before .before .before .before .before .before .before .first-instance .ensures) (c .before .before .before .before .before .before .before .before .before .before .enum-told4 .given .1) _ (c .before .before .before .before .before .before .items-start .ensures) (c .before .before .before .work-out .ensures) (c .before .before .base .ensures) (c .before .room .ensures) (c .if3 .left))
+loop3-holds c = push-none _ _ _ _ _ _ (c .before .before .before .before .before .before .before .before .before .before .before .before .before .before .before .before .before .before .before .before .before .before .before .before .before .before .before .before .before .before .loop2 .inv .long) (stack-room _ _ _ (c .before .room .ensures) (c .if3 .left)) (work-lies (place-good (c .before .before .before .before .before .before .before .before .before .before .before .before .before .before .before .before .before .before .before .before .before .before .before .before .before .before .before .before .before .before .loop2 .inv) (c .before .before .before .before .before .before .before .before .before .before .before .before .before .before .before .before .before .before .before .before .before .before .before .before .before .before .before .before .before .loop2-test .taken) (c .before .before .before .before .before .before .before .before .before .before .before .before .before .before .before .before .before .before .before .before .before .before .before .before .before .before .before .before .if1 .left) (begun-table (c .before .before .before .before .before .before .before .before .before .before .before .before .before .before .before .before .before .before .before .before .before .before .before .before .before .before .before .before .before .before .before .before .before .before .before .before .before .before .pre)) (c .before .before .before .before .before .before .before .before .before .before .before .before .before .before .before .before .before .before .before .before .before .before .before .before .item2 .given .1) _ (c .before .before .before .before .before .before .before .before .before .before .before .before .before .before .before .before .before .before .before .before .before .before .place-of .ensures) (c .before .before .before .before .before .before .before .before .before .before .before .before .before .before .before .before .before .before .before .before .found .given .1) _ (shape-is (c .before .before .before .before .before .before .before .before .before .before .before .before .before .before .before .before .before .before .before .before .before .before .before .before .before .before .before .before .before .before .before .before .before .before .before .before .before .before .pre) (c .before .before .before .before .before .before .before .before .before .before .before .before .before .before .before .before .before .before .before .before .found .given .0 .0))) (c .before .before .before .items-start .ensures))
 
 sub-left : tie.Need-sub-left Inv-loop μ-loop Inv-loop3 μ-loop3 Inv-loop4 μ-loop4 Inv-loop2 μ-loop2
 sub-left c = omega (arith, c .loop3-test .taken)
 
-mul-pushed :
-    tie.Need-mul-pushed Inv-loop μ-loop Inv-loop3 μ-loop3 Inv-loop4 μ-loop4 Inv-loop2 μ-loop2
-mul-pushed c = omega (arith, c .before .loop3 .inv .within, c .before .loop3 .inv .few, c .loop3-test .taken)
+behind-item-requires :
+    tie.Need-behind-item-requires Inv-loop μ-loop Inv-loop3 μ-loop3 Inv-loop4 μ-loop4 Inv-loop2 μ-loop2
+behind-item-requires c κs = pushed-lies (c .before .loop3 .inv) (c .loop3-test .taken)
 
-element-copy-out-pushed :
-    tie.Need-element-copy-out-pushed
-    Inv-loop
-    μ-loop
-    Inv-loop3
-    μ-loop3
-    Inv-loop4
-    μ-loop4
-    Inv-loop2
-    μ-loop2
-element-copy-out-pushed c = omega (arith, c .before .loop3 .inv .within, c .before .loop3 .inv .few, c .loop3-test .taken)
+item-entry-requires :
+    tie.Need-item-entry-requires Inv-loop μ-loop Inv-loop3 μ-loop3 Inv-loop4 μ-loop4 Inv-loop2 μ-loop2
+item-entry-requires c κs = pushed-reads (c .before .before .before .before .loop3 .inv) (c .before .before .before .loop3-test .taken)
+
+add-entries :
+    tie.Need-add-entries Inv-loop μ-loop Inv-loop3 μ-loop3 Inv-loop4 μ-loop4 Inv-loop2 μ-loop2
+add-entries c = omega (arith, c .before .before .before .before .before .before .before .loop3 .inv .within, c .before .before .before .before .before .before .before .loop3 .inv .room, c .before .before .before .before .before .before .loop3-test .taken)
 
 mul-entries-4 :
     tie.Need-mul-entries-4 Inv-loop μ-loop Inv-loop3 μ-loop3 Inv-loop4 μ-loop4 Inv-loop2 μ-loop2
-mul-entries-4 c = omega (arith, c .before .before .loop3 .inv .depth, c .before .before .loop3 .inv .room, c .before .loop3-test .taken)
+mul-entries-4 c = omega (arith, c .before .before .before .before .before .before .before .loop3 .inv .within, c .before .before .before .before .before .before .before .loop3 .inv .room, c .before .before .before .before .before .before .loop3-test .taken)
 
 array-set-from-entries-4 :
     tie.Need-array-set-from-entries-4
@@ -410,26 +397,38 @@ array-set-from-entries-4 :
     μ-loop4
     Inv-loop2
     μ-loop2
-array-set-from-entries-4 c = omega (arith, c .before .before .loop3 .inv .depth, c .before .before .loop3 .inv .room, c .before .loop3-test .taken)
-
-add-depth :
-    tie.Need-add-depth Inv-loop μ-loop Inv-loop3 μ-loop3 Inv-loop4 μ-loop4 Inv-loop2 μ-loop2
-add-depth c = omega (arith, c .before .before .loop3 .inv .depth, c .before .before .loop3 .inv .room, c .before .loop3-test .taken)
+array-set-from-entries-4 c = omega (arith, c .before .before .before .before .before .before .before .loop3 .inv .within, c .before .before .before .before .before .before .before .loop3 .inv .room, c .before .before .before .before .before .before .loop3-test .taken)
 
 loop3-less :
     tie.Need-loop3-less Inv-loop μ-loop Inv-loop3 μ-loop3 Inv-loop4 μ-loop4 Inv-loop2 μ-loop2
-loop3-less c = omega (arith, c .before .loop3-test .taken)
+loop3-less c = omega (arith, c .before .before .before .before .before .before .loop3-test .taken)
 
 loop3-again :
     tie.Need-loop3-again Inv-loop μ-loop Inv-loop3 μ-loop3 Inv-loop4 μ-loop4 Inv-loop2 μ-loop2
-loop3-again c = push-more _ _ (c .before .before .loop3 .inv) (c .before .loop3-test .taken) (c .before .before .before .before .before .before .work-out .ensures .whole) (place-good (c .before .before .before .before .before .before .before .before .before .before .before .before .before .before .before .before .before .before .before .before .before .before .before .before .before .before .before .before .before .before .before .before .before .before .before .before .loop2 .inv) (c .before .before .before .before .before .before .before .before .before .before .before .before .before .before .before .before .before .before .before .before .before .before .before .before .before .before .before .before .before .before .before .before .before .before .before .loop2-test .taken) (c .before .before .before .before .before .before .before .before .before .before .before .before .before .before .before .before .before .before .before .before .before .before .before .before .before .before .before .before .before .before .before .before .before .before .if1 .left) (begun-table (c .before .before .before .before .before .before .before .before .before .before .before .before .before .before .before .before .before .before .before .before .before .before .before .before .before .before .before .before .before .before .before .before .before .before .before .before .before .before .before .before .before .before .before .before .pre)) (c .before .before .before .before .before .before .before .before .before .before .before .before .before .before .before .before .before .before .before .before .before .before .before .before .before .before .before .before .before .before .item2 .given .1) _ (c .before .before .before .before .before .before .before .before .before .before .before .before .before .before .before .before .before .before .before .before .before .before .before .before .before .before .before .before .place-of .ensures) (c .before .before .before .before .before .before .before .before .before .before .before .before .before .before .before .before .before .before .before .before .before .before .before .before .before .before .found .given .1) _ (shape-is (c .before .before .before .before .before .before .before .before .before .before .before .before .before .before .before .before .before .before .before .before .before .before .before .before .before .before .before .before .before .before .before .before .before .before .before .before .before .before .before .before .before .before .before .before .pre) (c .before .before .before .before .before .before .before .before .before .before .before .before .before .before .before .before .before .before .before .before .before .before .before .before .before .before .found .given .0 .0)) .good .fewItems)
+loop3-again c = push-more (c .before .before .before .before .before .before .before .loop3 .inv) (c .before .before .before .before .before .before .loop3-test .taken) _ (c .before .before .item-entry .ensures) (c .if4 .taken) (c .before .before .before .before .before .behind-item .ensures)
+
+ended-requires-5 :
+    tie.Need-ended-requires-5 Inv-loop μ-loop Inv-loop3 μ-loop3 Inv-loop4 μ-loop4 Inv-loop2 μ-loop2
+ended-requires-5 c κs = c .before .before .before .before .before .before .before .before .before .before .before .before .before .before .before .before .before .before .before .before .before .before .before .before .before .before .before .before .before .before .before .before .before .before .before .before .before .before .loop2 .inv .rows .few
+
+returns-5 :
+    tie.Need-returns-5 Inv-loop μ-loop Inv-loop3 μ-loop3 Inv-loop4 μ-loop4 Inv-loop2 μ-loop2
+returns-5 c = by-result (c .ended5 .ensures) (undefined (c .before .before .before .before .before .before .before .before .before .before .before .before .before .before .before .before .before .before .before .before .before .before .before .before .before .before .before .before .before .before .before .before .before .before .before .before .before .before .before .loop2 .inv) (c .before .before .before .before .before .before .before .before .before .before .before .before .before .before .before .before .before .before .before .before .before .before .before .before .before .before .before .before .before .before .before .before .before .before .before .before .before .before .loop2-test .taken) (c .before .before .before .before .before .before .before .before .before .before .before .before .before .before .before .before .before .before .before .before .before .before .before .before .before .before .before .before .before .before .before .before .before .before .before .before .before .if1 .left) (begun-table (c .before .before .before .before .before .before .before .before .before .before .before .before .before .before .before .before .before .before .before .before .before .before .before .before .before .before .before .before .before .before .before .before .before .before .before .before .before .before .before .before .before .before .before .before .before .before .before .pre)) (c .before .before .before .before .before .before .before .before .before .before .before .before .before .before .before .before .before .before .before .before .before .before .before .before .before .before .before .before .before .before .before .before .before .item2 .given .1) _ (c .before .before .before .before .before .before .before .before .before .before .before .before .before .before .before .before .before .before .before .before .before .before .before .before .before .before .before .before .before .before .before .place-of .ensures) (c .before .before .before .before .before .before .before .before .before .before .before .before .before .before .before .before .before .before .before .before .before .before .before .before .before .before .before .before .before .found .given .1) _ (shape-is (c .before .before .before .before .before .before .before .before .before .before .before .before .before .before .before .before .before .before .before .before .before .before .before .before .before .before .before .before .before .before .before .before .before .before .before .before .before .before .before .before .before .before .before .before .before .before .before .pre) (c .before .before .before .before .before .before .before .before .before .before .before .before .before .before .before .before .before .before .before .before .before .before .before .before .before .before .before .before .before .found .given .0 .0)) refl (c .before .before .before .before .before .before .before .before .before .before .before .before .before .before .before .before .before .before .first-instance .ensures) (c .before .before .before .before .before .before .before .before .before .before .before .before .before .before .before .before .enum-told4 .given .1) (c .before .before .before .before .before .before .before .before .before .before .before .before .items-start .ensures) (push-stops (c .before .before .before .before .before .before .before .before .loop3 .inv) (c .before .before .before .before .before .before .before .loop3-test .taken) _ (c .before .before .before .item-entry .ensures) (c .before .if4 .left)))
+
+add-more :
+    tie.Need-add-more Inv-loop μ-loop Inv-loop3 μ-loop3 Inv-loop4 μ-loop4 Inv-loop2 μ-loop2
+add-more c = omega (arith, c .before .before .before .before .before .before .before .before .before .before .before .before .before .before .before .before .before .before .before .before .before .before .before .before .before .before .before .before .before .before .before .before .loop2 .inv .firingsFew, c .before .before .before .before .before .before .before .before .before .before .before .before .before .before .before .before .before .before .before .before .before .before .before .before .before .before .before .before .before .before .before .before .loop2 .inv .legal, c .before .before .before .before .before .before .before .before .before .before .before .before .before .before .before .before .before .before .before .before .before .before .before .before .before .before .before .before .before .before .before .loop2-test .taken)
+
+add-depth :
+    tie.Need-add-depth Inv-loop μ-loop Inv-loop3 μ-loop3 Inv-loop4 μ-loop4 Inv-loop2 μ-loop2
+add-depth c = omega (arith, c .before .loop3 .inv .room)
 
 entry-requires :
     tie.Need-entry-requires Inv-loop μ-loop Inv-loop3 μ-loop3 Inv-loop4 μ-loop4 Inv-loop2 μ-loop2
-entry-requires c κs = record { whole = c .before .before .before .before .before .before .before .before .before .before .before .before .before .before .before .before .first-instance .ensures .long; few = place-good (c .before .before .before .before .before .before .before .before .before .before .before .before .before .before .before .before .before .before .before .before .before .before .before .before .before .before .before .before .before .before .before .before .before .before .before .before .before .loop2 .inv) (c .before .before .before .before .before .before .before .before .before .before .before .before .before .before .before .before .before .before .before .before .before .before .before .before .before .before .before .before .before .before .before .before .before .before .before .before .loop2-test .taken) (c .before .before .before .before .before .before .before .before .before .before .before .before .before .before .before .before .before .before .before .before .before .before .before .before .before .before .before .before .before .before .before .before .before .before .before .if1 .left) (begun-table (c .before .before .before .before .before .before .before .before .before .before .before .before .before .before .before .before .before .before .before .before .before .before .before .before .before .before .before .before .before .before .before .before .before .before .before .before .before .before .before .before .before .before .before .before .before .pre)) (c .before .before .before .before .before .before .before .before .before .before .before .before .before .before .before .before .before .before .before .before .before .before .before .before .before .before .before .before .before .before .before .item2 .given .1) _ (c .before .before .before .before .before .before .before .before .before .before .before .before .before .before .before .before .before .before .before .before .before .before .before .before .before .before .before .before .before .place-of .ensures) (c .before .before .before .before .before .before .before .before .before .before .before .before .before .before .before .before .before .before .before .before .before .before .before .before .before .before .before .found .given .1) _ (shape-is (c .before .before .before .before .before .before .before .before .before .before .before .before .before .before .before .before .before .before .before .before .before .before .before .before .before .before .before .before .before .before .before .before .before .before .before .before .before .before .before .before .before .before .before .before .before .pre) (c .before .before .before .before .before .before .before .before .before .before .before .before .before .before .before .before .before .before .before .before .before .before .before .before .before .before .before .found .given .0 .0)) .good .fewHeads }
+entry-requires c κs = record { whole = c .before .before .before .before .before .before .before .before .before .before .before .before .before .first-instance .ensures .long; few = place-good (c .before .before .before .before .before .before .before .before .before .before .before .before .before .before .before .before .before .before .before .before .before .before .before .before .before .before .before .before .before .before .before .before .before .before .loop2 .inv) (c .before .before .before .before .before .before .before .before .before .before .before .before .before .before .before .before .before .before .before .before .before .before .before .before .before .before .before .before .before .before .before .before .before .loop2-test .taken) (c .before .before .before .before .before .before .before .before .before .before .before .before .before .before .before .before .before .before .before .before .before .before .before .before .before .before .before .before .before .before .before .before .if1 .left) (begun-table (c .before .before .before .before .before .before .before .before .before .before .before .before .before .before .before .before .before .before .before .before .before .before .before .before .before .before .before .before .before .before .before .before .before .before .before .before .before .before .before .before .before .before .pre)) (c .before .before .before .before .before .before .before .before .before .before .before .before .before .before .before .before .before .before .before .before .before .before .before .before .before .before .before .before .item2 .given .1) _ (c .before .before .before .before .before .before .before .before .before .before .before .before .before .before .before .before .before .before .before .before .before .before .before .before .before .before .place-of .ensures) (c .before .before .before .before .before .before .before .before .before .before .before .before .before .before .before .before .before .before .before .before .before .before .before .before .found .given .1) _ (shape-is (c .before .before .before .before .before .before .before .before .before .before .before .before .before .before .before .before .before .before .before .before .before .before .before .before .before .before .before .before .before .before .before .before .before .before .before .before .before .before .before .before .before .before .pre) (c .before .before .before .before .before .before .before .before .before .before .before .before .before .before .before .before .before .before .before .before .before .before .before .before .found .given .0 .0)) .good .fewHeads }
 
 mul-past : tie.Need-mul-past Inv-loop μ-loop Inv-loop3 μ-loop3 Inv-loop4 μ-loop4 Inv-loop2 μ-loop2
-mul-past c = omega (arith, history-room (c .before .before .before .before .before .before .before .before .before .before .before .before .before .before .before .before .before .before .before .before .before .before .before .before .before .before .before .before .before .before .before .before .before .before .before .before .before .before .loop2 .inv) (c .before .before .before .before .before .before .before .before .before .before .before .before .before .before .before .before .before .before .before .before .before .before .before .before .before .before .before .before .before .before .before .before .before .before .before .before .before .loop2-test .taken) (c .before .before .before .before .before .before .before .before .before .before .before .before .before .before .before .before .before .before .before .before .before .before .before .before .before .before .before .before .before .before .before .before .before .before .before .before .if1 .left) (begun-table (c .before .before .before .before .before .before .before .before .before .before .before .before .before .before .before .before .before .before .before .before .before .before .before .before .before .before .before .before .before .before .before .before .before .before .before .before .before .before .before .before .before .before .before .before .before .before .pre)) (c .before .before .before .before .before .before .before .before .before .before .before .before .before .before .before .before .before .before .before .before .before .before .before .before .before .before .before .before .before .before .before .before .item2 .given .1) _ (c .before .before .before .before .before .before .before .before .before .before .before .before .before .before .before .before .before .before .before .before .before .before .before .before .before .before .before .before .before .before .place-of .ensures) (c .before .before .before .before .before .before .before .before .before .before .before .before .before .before .before .before .before .before .before .before .before .before .before .before .before .before .before .before .found .given .1) _ (shape-is (c .before .before .before .before .before .before .before .before .before .before .before .before .before .before .before .before .before .before .before .before .before .before .before .before .before .before .before .before .before .before .before .before .before .before .before .before .before .before .before .before .before .before .before .before .before .before .pre) (c .before .before .before .before .before .before .before .before .before .before .before .before .before .before .before .before .before .before .before .before .before .before .before .before .before .before .before .before .found .given .0 .0)) refl (c .before .before .before .before .before .before .before .before .before .before .before .before .before .before .before .before .before .first-instance .ensures) (c .before .before .before .before .before .before .before .before .before .before .before .before .before .before .before .enum-told4 .given .1) _ (c .before .before .before .before .before .before .before .before .before .before .before .items-start .ensures) (c .before .before .before .before .before .before .before .before .work-out .ensures) (c .before .before .before .before .before .before .before .base .ensures) (c .before .before .before .before .before .before .room .ensures) (c .before .before .before .before .before .if3 .left) (c .before .before .if4 .taken))
+mul-past c = omega (arith, history-room _ _ _ (c .before .before .before .before .before .before .room .ensures) (c .before .before .before .before .before .if3 .left) (c .before .before .if5 .taken))
 
 array-set-from-past :
     tie.Need-array-set-from-past
@@ -441,23 +440,23 @@ array-set-from-past :
     μ-loop4
     Inv-loop2
     μ-loop2
-array-set-from-past c = omega (arith, history-room (c .before .before .before .before .before .before .before .before .before .before .before .before .before .before .before .before .before .before .before .before .before .before .before .before .before .before .before .before .before .before .before .before .before .before .before .before .before .before .loop2 .inv) (c .before .before .before .before .before .before .before .before .before .before .before .before .before .before .before .before .before .before .before .before .before .before .before .before .before .before .before .before .before .before .before .before .before .before .before .before .before .loop2-test .taken) (c .before .before .before .before .before .before .before .before .before .before .before .before .before .before .before .before .before .before .before .before .before .before .before .before .before .before .before .before .before .before .before .before .before .before .before .before .if1 .left) (begun-table (c .before .before .before .before .before .before .before .before .before .before .before .before .before .before .before .before .before .before .before .before .before .before .before .before .before .before .before .before .before .before .before .before .before .before .before .before .before .before .before .before .before .before .before .before .before .before .pre)) (c .before .before .before .before .before .before .before .before .before .before .before .before .before .before .before .before .before .before .before .before .before .before .before .before .before .before .before .before .before .before .before .before .item2 .given .1) _ (c .before .before .before .before .before .before .before .before .before .before .before .before .before .before .before .before .before .before .before .before .before .before .before .before .before .before .before .before .before .before .place-of .ensures) (c .before .before .before .before .before .before .before .before .before .before .before .before .before .before .before .before .before .before .before .before .before .before .before .before .before .before .before .before .found .given .1) _ (shape-is (c .before .before .before .before .before .before .before .before .before .before .before .before .before .before .before .before .before .before .before .before .before .before .before .before .before .before .before .before .before .before .before .before .before .before .before .before .before .before .before .before .before .before .before .before .before .before .pre) (c .before .before .before .before .before .before .before .before .before .before .before .before .before .before .before .before .before .before .before .before .before .before .before .before .before .before .before .before .found .given .0 .0)) refl (c .before .before .before .before .before .before .before .before .before .before .before .before .before .before .before .before .before .first-instance .ensures) (c .before .before .before .before .before .before .before .before .before .before .before .before .before .before .before .enum-told4 .given .1) _ (c .before .before .before .before .before .before .before .before .before .before .before .items-start .ensures) (c .before .before .before .before .before .before .before .before .work-out .ensures) (c .before .before .before .before .before .before .before .base .ensures) (c .before .before .before .before .before .before .room .ensures) (c .before .before .before .before .before .if3 .left) (c .before .before .if4 .taken))
+array-set-from-past c = omega (arith, history-room _ _ _ (c .before .before .before .before .before .before .room .ensures) (c .before .before .before .before .before .if3 .left) (c .before .before .if5 .taken))
 
 add-noted :
     tie.Need-add-noted Inv-loop μ-loop Inv-loop3 μ-loop3 Inv-loop4 μ-loop4 Inv-loop2 μ-loop2
-add-noted c = omega (arith, history-room (c .before .before .before .before .before .before .before .before .before .before .before .before .before .before .before .before .before .before .before .before .before .before .before .before .before .before .before .before .before .before .before .before .before .before .before .before .before .before .loop2 .inv) (c .before .before .before .before .before .before .before .before .before .before .before .before .before .before .before .before .before .before .before .before .before .before .before .before .before .before .before .before .before .before .before .before .before .before .before .before .before .loop2-test .taken) (c .before .before .before .before .before .before .before .before .before .before .before .before .before .before .before .before .before .before .before .before .before .before .before .before .before .before .before .before .before .before .before .before .before .before .before .before .if1 .left) (begun-table (c .before .before .before .before .before .before .before .before .before .before .before .before .before .before .before .before .before .before .before .before .before .before .before .before .before .before .before .before .before .before .before .before .before .before .before .before .before .before .before .before .before .before .before .before .before .before .pre)) (c .before .before .before .before .before .before .before .before .before .before .before .before .before .before .before .before .before .before .before .before .before .before .before .before .before .before .before .before .before .before .before .before .item2 .given .1) _ (c .before .before .before .before .before .before .before .before .before .before .before .before .before .before .before .before .before .before .before .before .before .before .before .before .before .before .before .before .before .before .place-of .ensures) (c .before .before .before .before .before .before .before .before .before .before .before .before .before .before .before .before .before .before .before .before .before .before .before .before .before .before .before .before .found .given .1) _ (shape-is (c .before .before .before .before .before .before .before .before .before .before .before .before .before .before .before .before .before .before .before .before .before .before .before .before .before .before .before .before .before .before .before .before .before .before .before .before .before .before .before .before .before .before .before .before .before .before .pre) (c .before .before .before .before .before .before .before .before .before .before .before .before .before .before .before .before .before .before .before .before .before .before .before .before .before .before .before .before .found .given .0 .0)) refl (c .before .before .before .before .before .before .before .before .before .before .before .before .before .before .before .before .before .first-instance .ensures) (c .before .before .before .before .before .before .before .before .before .before .before .before .before .before .before .enum-told4 .given .1) _ (c .before .before .before .before .before .before .before .before .before .before .before .items-start .ensures) (c .before .before .before .before .before .before .before .before .work-out .ensures) (c .before .before .before .before .before .before .before .base .ensures) (c .before .before .before .before .before .before .room .ensures) (c .before .before .before .before .before .if3 .left) (c .before .before .if4 .taken))
+add-noted c = omega (arith, history-room _ _ _ (c .before .before .before .before .before .before .room .ensures) (c .before .before .before .before .before .if3 .left) (c .before .before .if5 .taken))
 
 loop2-less-4 :
     tie.Need-loop2-less-4 Inv-loop μ-loop Inv-loop3 μ-loop3 Inv-loop4 μ-loop4 Inv-loop2 μ-loop2
-loop2-less-4 c = omega (arith, c .before .before .before .before .before .before .before .before .before .before .before .before .before .before .before .before .before .before .before .before .before .before .before .before .before .before .before .before .before .before .before .before .before .before .before .before .before .loop2-test .taken)
+loop2-less-4 c = omega (arith, c .before .before .before .before .before .before .before .before .before .before .before .before .before .before .before .before .before .before .before .before .before .before .before .before .before .before .before .before .before .before .before .before .before .before .loop2-test .taken)
 
 loop2-again-4 :
     tie.Need-loop2-again-4 Inv-loop μ-loop Inv-loop3 μ-loop3 Inv-loop4 μ-loop4 Inv-loop2 μ-loop2
-loop2-again-4 c = propagates (c .before .before .before .before .before .before .before .before .before .before .before .before .before .before .before .before .before .before .before .before .before .before .before .before .before .before .before .before .before .before .before .before .before .before .before .before .before .before .loop2 .inv) (c .before .before .before .before .before .before .before .before .before .before .before .before .before .before .before .before .before .before .before .before .before .before .before .before .before .before .before .before .before .before .before .before .before .before .before .before .before .loop2-test .taken) (c .before .before .before .before .before .before .before .before .before .before .before .before .before .before .before .before .before .before .before .before .before .before .before .before .before .before .before .before .before .before .before .before .before .before .before .before .if1 .left) (begun-table (c .before .before .before .before .before .before .before .before .before .before .before .before .before .before .before .before .before .before .before .before .before .before .before .before .before .before .before .before .before .before .before .before .before .before .before .before .before .before .before .before .before .before .before .before .before .before .pre)) (c .before .before .before .before .before .before .before .before .before .before .before .before .before .before .before .before .before .before .before .before .before .before .before .before .before .before .before .before .before .before .before .before .item2 .given .1) _ (c .before .before .before .before .before .before .before .before .before .before .before .before .before .before .before .before .before .before .before .before .before .before .before .before .before .before .before .before .before .before .place-of .ensures) (c .before .before .before .before .before .before .before .before .before .before .before .before .before .before .before .before .before .before .before .before .before .before .before .before .before .before .before .before .found .given .1) _ (shape-is (c .before .before .before .before .before .before .before .before .before .before .before .before .before .before .before .before .before .before .before .before .before .before .before .before .before .before .before .before .before .before .before .before .before .before .before .before .before .before .before .before .before .before .before .before .before .before .pre) (c .before .before .before .before .before .before .before .before .before .before .before .before .before .before .before .before .before .before .before .before .before .before .before .before .before .before .before .before .found .given .0 .0)) refl (c .before .before .before .before .before .before .before .before .before .before .before .before .before .before .before .before .before .first-instance .ensures) (c .before .before .before .before .before .before .before .before .before .before .before .before .before .before .before .enum-told4 .given .1) _ (c .before .before .before .before .before .before .before .before .before .before .before .items-start .ensures) (c .before .before .before .before .before .before .before .before .work-out .ensures) (c .before .before .before .before .before .before .before .base .ensures) (c .before .before .before .before .before .before .room .ensures) (c .before .before .before .before .before .if3 .left) (c .before .before .before .before .loop3 .inv) (c .before .before .before .loop3-test .left) (c .before .before .if4 .taken) _ (c .entry .ensures)
+loop2-again-4 c = propagates (c .before .before .before .before .before .before .before .before .before .before .before .before .before .before .before .before .before .before .before .before .before .before .before .before .before .before .before .before .before .before .before .before .before .before .before .loop2 .inv) (c .before .before .before .before .before .before .before .before .before .before .before .before .before .before .before .before .before .before .before .before .before .before .before .before .before .before .before .before .before .before .before .before .before .before .loop2-test .taken) (c .before .before .before .before .before .before .before .before .before .before .before .before .before .before .before .before .before .before .before .before .before .before .before .before .before .before .before .before .before .before .before .before .before .if1 .left) (begun-table (c .before .before .before .before .before .before .before .before .before .before .before .before .before .before .before .before .before .before .before .before .before .before .before .before .before .before .before .before .before .before .before .before .before .before .before .before .before .before .before .before .before .before .before .pre)) (c .before .before .before .before .before .before .before .before .before .before .before .before .before .before .before .before .before .before .before .before .before .before .before .before .before .before .before .before .before .item2 .given .1) _ (c .before .before .before .before .before .before .before .before .before .before .before .before .before .before .before .before .before .before .before .before .before .before .before .before .before .before .before .place-of .ensures) (c .before .before .before .before .before .before .before .before .before .before .before .before .before .before .before .before .before .before .before .before .before .before .before .before .before .found .given .1) _ (shape-is (c .before .before .before .before .before .before .before .before .before .before .before .before .before .before .before .before .before .before .before .before .before .before .before .before .before .before .before .before .before .before .before .before .before .before .before .before .before .before .before .before .before .before .before .pre) (c .before .before .before .before .before .before .before .before .before .before .before .before .before .before .before .before .before .before .before .before .before .before .before .before .before .found .given .0 .0)) refl (c .before .before .before .before .before .before .before .before .before .before .before .before .before .before .first-instance .ensures) (c .before .before .before .before .before .before .before .before .before .before .before .before .enum-told4 .given .1) (c .before .before .before .before .before .before .before .before .items-start .ensures) (c .before .before .before .before .before .before .before .base .ensures) (c .before .before .before .before .before .before .room .ensures) (c .before .before .before .before .before .if3 .left) (c .before .before .before .before .loop3 .inv) (c .before .before .before .loop3-test .left) (c .before .before .if5 .taken) _ (c .entry .ensures)
 
 loop4-holds :
     tie.Need-loop4-holds Inv-loop μ-loop Inv-loop3 μ-loop3 Inv-loop4 μ-loop4 Inv-loop2 μ-loop2
-loop4-holds c = leave-none _ _ _ _ (c .before .before .before .before .before .before .before .before .before .before .before .before .before .before .before .before .before .before .before .before .before .before .before .before .before .before .before .before .before .before .before .before .before .before .before .before .loop2 .inv .rows)
+loop4-holds c = leave-none _ _ _ _ (c .before .before .before .before .before .before .before .before .before .before .before .before .before .before .before .before .before .before .before .before .before .before .before .before .before .before .before .before .before .before .before .before .before .loop2 .inv .rows)
 
 mul-s : tie.Need-mul-s Inv-loop μ-loop Inv-loop3 μ-loop3 Inv-loop4 μ-loop4 Inv-loop2 μ-loop2
 mul-s c = omega (arith, c .loop4-test .taken, c .before .loop4 .inv .few)
@@ -479,7 +478,7 @@ is-among-requires :
     μ-loop4
     Inv-loop2
     μ-loop2
-is-among-requires c κs = record { whole = c .before .before .before .before .before .before .before .before .before .before .before .before .before .before .before .before .before .before .before .before .first-instance .ensures .long; few = place-good (c .before .before .before .before .before .before .before .before .before .before .before .before .before .before .before .before .before .before .before .before .before .before .before .before .before .before .before .before .before .before .before .before .before .before .before .before .before .before .before .before .before .loop2 .inv) (c .before .before .before .before .before .before .before .before .before .before .before .before .before .before .before .before .before .before .before .before .before .before .before .before .before .before .before .before .before .before .before .before .before .before .before .before .before .before .before .before .loop2-test .taken) (c .before .before .before .before .before .before .before .before .before .before .before .before .before .before .before .before .before .before .before .before .before .before .before .before .before .before .before .before .before .before .before .before .before .before .before .before .before .before .before .if1 .left) (begun-table (c .before .before .before .before .before .before .before .before .before .before .before .before .before .before .before .before .before .before .before .before .before .before .before .before .before .before .before .before .before .before .before .before .before .before .before .before .before .before .before .before .before .before .before .before .before .before .before .before .before .pre)) (c .before .before .before .before .before .before .before .before .before .before .before .before .before .before .before .before .before .before .before .before .before .before .before .before .before .before .before .before .before .before .before .before .before .before .before .item2 .given .1) _ (c .before .before .before .before .before .before .before .before .before .before .before .before .before .before .before .before .before .before .before .before .before .before .before .before .before .before .before .before .before .before .before .before .before .place-of .ensures) (c .before .before .before .before .before .before .before .before .before .before .before .before .before .before .before .before .before .before .before .before .before .before .before .before .before .before .before .before .before .before .before .found .given .1) _ (shape-is (c .before .before .before .before .before .before .before .before .before .before .before .before .before .before .before .before .before .before .before .before .before .before .before .before .before .before .before .before .before .before .before .before .before .before .before .before .before .before .before .before .before .before .before .before .before .before .before .before .before .pre) (c .before .before .before .before .before .before .before .before .before .before .before .before .before .before .before .before .before .before .before .before .before .before .before .before .before .before .before .before .before .before .before .found .given .0 .0)) .good .fewHeads }
+is-among-requires c κs = record { whole = c .before .before .before .before .before .before .before .before .before .before .before .before .before .before .before .before .before .first-instance .ensures .long; few = place-good (c .before .before .before .before .before .before .before .before .before .before .before .before .before .before .before .before .before .before .before .before .before .before .before .before .before .before .before .before .before .before .before .before .before .before .before .before .before .before .loop2 .inv) (c .before .before .before .before .before .before .before .before .before .before .before .before .before .before .before .before .before .before .before .before .before .before .before .before .before .before .before .before .before .before .before .before .before .before .before .before .before .loop2-test .taken) (c .before .before .before .before .before .before .before .before .before .before .before .before .before .before .before .before .before .before .before .before .before .before .before .before .before .before .before .before .before .before .before .before .before .before .before .before .if1 .left) (begun-table (c .before .before .before .before .before .before .before .before .before .before .before .before .before .before .before .before .before .before .before .before .before .before .before .before .before .before .before .before .before .before .before .before .before .before .before .before .before .before .before .before .before .before .before .before .before .before .pre)) (c .before .before .before .before .before .before .before .before .before .before .before .before .before .before .before .before .before .before .before .before .before .before .before .before .before .before .before .before .before .before .before .before .item2 .given .1) _ (c .before .before .before .before .before .before .before .before .before .before .before .before .before .before .before .before .before .before .before .before .before .before .before .before .before .before .before .before .before .before .place-of .ensures) (c .before .before .before .before .before .before .before .before .before .before .before .before .before .before .before .before .before .before .before .before .before .before .before .before .before .before .before .before .found .given .1) _ (shape-is (c .before .before .before .before .before .before .before .before .before .before .before .before .before .before .before .before .before .before .before .before .before .before .before .before .before .before .before .before .before .before .before .before .before .before .before .before .before .before .before .before .before .before .before .before .before .before .pre) (c .before .before .before .before .before .before .before .before .before .before .before .before .before .before .before .before .before .before .before .before .before .before .before .before .before .before .before .before .found .given .0 .0)) .good .fewHeads }
 
 loop4-less :
     tie.Need-loop4-less Inv-loop μ-loop Inv-loop3 μ-loop3 Inv-loop4 μ-loop4 Inv-loop2 μ-loop2
@@ -487,7 +486,7 @@ loop4-less c = omega (arith, c .before .before .before .before .before .loop4-te
 
 loop4-again :
     tie.Need-loop4-again Inv-loop μ-loop Inv-loop3 μ-loop3 Inv-loop4 μ-loop4 Inv-loop2 μ-loop2
-loop4-again c = leave-out (c .before .before .before .before .before .before .loop4 .inv) (c .before .before .before .before .before .loop4-test .taken) (c .before .is-among .ensures) (c .if5 .taken)
+loop4-again c = leave-out (c .before .before .before .before .before .before .loop4 .inv) (c .before .before .before .before .before .loop4-test .taken) (c .before .is-among .ensures) (c .if6 .taken)
 
 add-to : tie.Need-add-to Inv-loop μ-loop Inv-loop3 μ-loop3 Inv-loop4 μ-loop4 Inv-loop2 μ-loop2
 add-to c = omega (arith, c .before .before .before .before .before .before .before .loop4 .inv .compacting .order, c .before .before .before .before .before .before .before .loop4 .inv .few, c .before .before .before .before .before .before .loop4-test .taken)
@@ -496,7 +495,7 @@ loop4-less-2 : tie.Need-loop4-less-2 Inv-loop μ-loop Inv-loop3 μ-loop3 Inv-loo
 loop4-less-2 c = omega (arith, c .before .before .before .before .before .before .loop4-test .taken)
 
 loop4-again-2 : tie.Need-loop4-again-2 Inv-loop μ-loop Inv-loop3 μ-loop3 Inv-loop4 μ-loop4 Inv-loop2 μ-loop2
-loop4-again-2 c = leave-there (c .before .before .before .before .before .before .before .loop4 .inv) (c .before .before .before .before .before .before .loop4-test .taken) (c .before .before .is-among .ensures) (c .before .if5 .left) (c .if6 .taken)
+loop4-again-2 c = leave-there (c .before .before .before .before .before .before .before .loop4 .inv) (c .before .before .before .before .before .before .loop4-test .taken) (c .before .before .is-among .ensures) (c .before .if6 .left) (c .if7 .taken)
 
 mul-facts-2 :
     tie.Need-mul-facts-2 Inv-loop μ-loop Inv-loop3 μ-loop3 Inv-loop4 μ-loop4 Inv-loop2 μ-loop2
@@ -527,47 +526,47 @@ loop4-less-3 c = omega (arith, c .before .before .before .before .before .before
 
 loop4-again-3 :
     tie.Need-loop4-again-3 Inv-loop μ-loop Inv-loop3 μ-loop3 Inv-loop4 μ-loop4 Inv-loop2 μ-loop2
-loop4-again-3 c = leave-in (c .before .before .before .before .before .before .before .before .before .before .before .loop4 .inv) (c .before .before .before .before .before .before .before .before .before .before .loop4-test .taken) (c .before .before .before .before .before .before .is-among .ensures) (c .before .before .before .before .before .if5 .left) (c .before .before .before .before .if6 .left) (c .put2 .ensures)
+loop4-again-3 c = leave-in (c .before .before .before .before .before .before .before .before .before .before .before .loop4 .inv) (c .before .before .before .before .before .before .before .before .before .before .loop4-test .taken) (c .before .before .before .before .before .before .is-among .ensures) (c .before .before .before .before .before .if6 .left) (c .before .before .before .before .if7 .left) (c .put2 .ensures)
 
 prune-requires :
     tie.Need-prune-requires Inv-loop μ-loop Inv-loop3 μ-loop3 Inv-loop4 μ-loop4 Inv-loop2 μ-loop2
-prune-requires c κs = (c .before .before .before .before .before .before .before .before .before .before .before .before .before .before .before .before .before .before .before .before .before .before .before .before .before .before .before .before .before .before .before .before .before .before .before .before .before .before .before .before .loop2 .inv .past .few, (c .before .before .before .before .before .before .before .before .before .before .before .before .before .before .before .before .before .before .before .before .before .before .before .before .before .before .before .before .before .before .before .before .before .before .before .before .before .before .before .before .loop2 .inv .past .long, record { whole = c .before .before .before .before .before .before .before .before .before .before .before .before .before .before .before .before .before .before .before .first-instance .ensures .long; few = place-good (c .before .before .before .before .before .before .before .before .before .before .before .before .before .before .before .before .before .before .before .before .before .before .before .before .before .before .before .before .before .before .before .before .before .before .before .before .before .before .before .before .loop2 .inv) (c .before .before .before .before .before .before .before .before .before .before .before .before .before .before .before .before .before .before .before .before .before .before .before .before .before .before .before .before .before .before .before .before .before .before .before .before .before .before .before .loop2-test .taken) (c .before .before .before .before .before .before .before .before .before .before .before .before .before .before .before .before .before .before .before .before .before .before .before .before .before .before .before .before .before .before .before .before .before .before .before .before .before .before .if1 .left) (begun-table (c .before .before .before .before .before .before .before .before .before .before .before .before .before .before .before .before .before .before .before .before .before .before .before .before .before .before .before .before .before .before .before .before .before .before .before .before .before .before .before .before .before .before .before .before .before .before .before .before .pre)) (c .before .before .before .before .before .before .before .before .before .before .before .before .before .before .before .before .before .before .before .before .before .before .before .before .before .before .before .before .before .before .before .before .before .before .item2 .given .1) _ (c .before .before .before .before .before .before .before .before .before .before .before .before .before .before .before .before .before .before .before .before .before .before .before .before .before .before .before .before .before .before .before .before .place-of .ensures) (c .before .before .before .before .before .before .before .before .before .before .before .before .before .before .before .before .before .before .before .before .before .before .before .before .before .before .before .before .before .before .found .given .1) _ (shape-is (c .before .before .before .before .before .before .before .before .before .before .before .before .before .before .before .before .before .before .before .before .before .before .before .before .before .before .before .before .before .before .before .before .before .before .before .before .before .before .before .before .before .before .before .before .before .before .before .before .pre) (c .before .before .before .before .before .before .before .before .before .before .before .before .before .before .before .before .before .before .before .before .before .before .before .before .before .before .before .before .before .before .found .given .0 .0)) .good .fewHeads }))
+prune-requires c κs = (c .before .before .before .before .before .before .before .before .before .before .before .before .before .before .before .before .before .before .before .before .before .before .before .before .before .before .before .before .before .before .before .before .before .before .before .before .before .loop2 .inv .past .few, (c .before .before .before .before .before .before .before .before .before .before .before .before .before .before .before .before .before .before .before .before .before .before .before .before .before .before .before .before .before .before .before .before .before .before .before .before .before .loop2 .inv .past .long, record { whole = c .before .before .before .before .before .before .before .before .before .before .before .before .before .before .before .before .first-instance .ensures .long; few = place-good (c .before .before .before .before .before .before .before .before .before .before .before .before .before .before .before .before .before .before .before .before .before .before .before .before .before .before .before .before .before .before .before .before .before .before .before .before .before .loop2 .inv) (c .before .before .before .before .before .before .before .before .before .before .before .before .before .before .before .before .before .before .before .before .before .before .before .before .before .before .before .before .before .before .before .before .before .before .before .before .loop2-test .taken) (c .before .before .before .before .before .before .before .before .before .before .before .before .before .before .before .before .before .before .before .before .before .before .before .before .before .before .before .before .before .before .before .before .before .before .before .if1 .left) (begun-table (c .before .before .before .before .before .before .before .before .before .before .before .before .before .before .before .before .before .before .before .before .before .before .before .before .before .before .before .before .before .before .before .before .before .before .before .before .before .before .before .before .before .before .before .before .before .pre)) (c .before .before .before .before .before .before .before .before .before .before .before .before .before .before .before .before .before .before .before .before .before .before .before .before .before .before .before .before .before .before .before .item2 .given .1) _ (c .before .before .before .before .before .before .before .before .before .before .before .before .before .before .before .before .before .before .before .before .before .before .before .before .before .before .before .before .before .place-of .ensures) (c .before .before .before .before .before .before .before .before .before .before .before .before .before .before .before .before .before .before .before .before .before .before .before .before .before .before .before .found .given .1) _ (shape-is (c .before .before .before .before .before .before .before .before .before .before .before .before .before .before .before .before .before .before .before .before .before .before .before .before .before .before .before .before .before .before .before .before .before .before .before .before .before .before .before .before .before .before .before .before .before .pre) (c .before .before .before .before .before .before .before .before .before .before .before .before .before .before .before .before .before .before .before .before .before .before .before .before .before .before .before .found .given .0 .0)) .good .fewHeads }))
 
 loop2-less-5 :
     tie.Need-loop2-less-5 Inv-loop μ-loop Inv-loop3 μ-loop3 Inv-loop4 μ-loop4 Inv-loop2 μ-loop2
-loop2-less-5 c = omega (arith, c .before .before .before .before .before .before .before .before .before .before .before .before .before .before .before .before .before .before .before .before .before .before .before .before .before .before .before .before .before .before .before .before .before .before .before .before .before .before .before .before .loop2-test .taken)
+loop2-less-5 c = omega (arith, c .before .before .before .before .before .before .before .before .before .before .before .before .before .before .before .before .before .before .before .before .before .before .before .before .before .before .before .before .before .before .before .before .before .before .before .before .before .loop2-test .taken)
 
 loop2-again-5 :
     tie.Need-loop2-again-5 Inv-loop μ-loop Inv-loop3 μ-loop3 Inv-loop4 μ-loop4 Inv-loop2 μ-loop2
-loop2-again-5 c = simplifies (c .before .before .before .before .before .before .before .before .before .before .before .before .before .before .before .before .before .before .before .before .before .before .before .before .before .before .before .before .before .before .before .before .before .before .before .before .before .before .before .before .before .loop2 .inv) (c .before .before .before .before .before .before .before .before .before .before .before .before .before .before .before .before .before .before .before .before .before .before .before .before .before .before .before .before .before .before .before .before .before .before .before .before .before .before .before .before .loop2-test .taken) (c .before .before .before .before .before .before .before .before .before .before .before .before .before .before .before .before .before .before .before .before .before .before .before .before .before .before .before .before .before .before .before .before .before .before .before .before .before .before .before .if1 .left) (begun-table (c .before .before .before .before .before .before .before .before .before .before .before .before .before .before .before .before .before .before .before .before .before .before .before .before .before .before .before .before .before .before .before .before .before .before .before .before .before .before .before .before .before .before .before .before .before .before .before .before .before .pre)) (c .before .before .before .before .before .before .before .before .before .before .before .before .before .before .before .before .before .before .before .before .before .before .before .before .before .before .before .before .before .before .before .before .before .before .before .item2 .given .1) _ (c .before .before .before .before .before .before .before .before .before .before .before .before .before .before .before .before .before .before .before .before .before .before .before .before .before .before .before .before .before .before .before .before .before .place-of .ensures) (c .before .before .before .before .before .before .before .before .before .before .before .before .before .before .before .before .before .before .before .before .before .before .before .before .before .before .before .before .before .before .before .found .given .1) _ (shape-is (c .before .before .before .before .before .before .before .before .before .before .before .before .before .before .before .before .before .before .before .before .before .before .before .before .before .before .before .before .before .before .before .before .before .before .before .before .before .before .before .before .before .before .before .before .before .before .before .before .before .pre) (c .before .before .before .before .before .before .before .before .before .before .before .before .before .before .before .before .before .before .before .before .before .before .before .before .before .before .before .before .before .before .before .found .given .0 .0)) refl (c .before .before .before .before .before .before .before .before .before .before .before .before .before .before .before .before .before .before .before .before .first-instance .ensures) (c .before .before .before .before .before .before .before .before .before .before .before .before .before .before .before .before .before .before .enum-told4 .given .1) _ (c .before .before .before .before .before .before .before .before .before .before .before .before .before .before .items-start .ensures) (c .before .before .before .before .before .before .before .before .before .before .before .work-out .ensures) (c .before .before .before .before .before .before .before .before .before .before .base .ensures) (c .before .before .before .before .before .before .before .before .before .room .ensures) (c .before .before .before .before .before .before .before .before .if3 .left) (c .before .before .before .before .before .before .before .loop3 .inv) (c .before .before .before .before .before .before .loop3-test .left) (c .before .before .before .before .before .if4 .left) (c .before .before .before .before .loop4 .inv) (c .before .before .before .loop4-test .left) (c .prune .ensures)
+loop2-again-5 c = simplifies (c .before .before .before .before .before .before .before .before .before .before .before .before .before .before .before .before .before .before .before .before .before .before .before .before .before .before .before .before .before .before .before .before .before .before .before .before .before .before .loop2 .inv) (c .before .before .before .before .before .before .before .before .before .before .before .before .before .before .before .before .before .before .before .before .before .before .before .before .before .before .before .before .before .before .before .before .before .before .before .before .before .loop2-test .taken) (c .before .before .before .before .before .before .before .before .before .before .before .before .before .before .before .before .before .before .before .before .before .before .before .before .before .before .before .before .before .before .before .before .before .before .before .before .if1 .left) (begun-table (c .before .before .before .before .before .before .before .before .before .before .before .before .before .before .before .before .before .before .before .before .before .before .before .before .before .before .before .before .before .before .before .before .before .before .before .before .before .before .before .before .before .before .before .before .before .before .pre)) (c .before .before .before .before .before .before .before .before .before .before .before .before .before .before .before .before .before .before .before .before .before .before .before .before .before .before .before .before .before .before .before .before .item2 .given .1) _ (c .before .before .before .before .before .before .before .before .before .before .before .before .before .before .before .before .before .before .before .before .before .before .before .before .before .before .before .before .before .before .place-of .ensures) (c .before .before .before .before .before .before .before .before .before .before .before .before .before .before .before .before .before .before .before .before .before .before .before .before .before .before .before .before .found .given .1) _ (shape-is (c .before .before .before .before .before .before .before .before .before .before .before .before .before .before .before .before .before .before .before .before .before .before .before .before .before .before .before .before .before .before .before .before .before .before .before .before .before .before .before .before .before .before .before .before .before .before .pre) (c .before .before .before .before .before .before .before .before .before .before .before .before .before .before .before .before .before .before .before .before .before .before .before .before .before .before .before .before .found .given .0 .0)) refl (c .before .before .before .before .before .before .before .before .before .before .before .before .before .before .before .before .before .first-instance .ensures) (c .before .before .before .before .before .before .before .before .before .before .before .before .before .before .before .enum-told4 .given .1) (c .before .before .before .before .before .before .before .before .before .before .before .items-start .ensures) (c .before .before .before .before .before .before .before .before .before .before .base .ensures) (c .before .before .before .before .before .before .before .before .before .room .ensures) (c .before .before .before .before .before .before .before .before .if3 .left) (c .before .before .before .before .before .before .before .loop3 .inv) (c .before .before .before .before .before .before .loop3-test .left) (c .before .before .before .before .before .if5 .left) (c .before .before .before .before .loop4 .inv) (c .before .before .before .loop4-test .left) (c .prune .ensures)
 
 enum-told-5 :
     tie.Need-enum-told-5 Inv-loop μ-loop Inv-loop3 μ-loop3 Inv-loop4 μ-loop4 Inv-loop2 μ-loop2
 enum-told-5 c = search needs
 
-ended-requires-5 :
-    tie.Need-ended-requires-5 Inv-loop μ-loop Inv-loop3 μ-loop3 Inv-loop4 μ-loop4 Inv-loop2 μ-loop2
-ended-requires-5 c κs = search needs
-
-returns-5 :
-    tie.Need-returns-5 Inv-loop μ-loop Inv-loop3 μ-loop3 Inv-loop4 μ-loop4 Inv-loop2 μ-loop2
-returns-5 c = by-result (c .ended5 .ensures) (failed (c .before .before .before .before .before .before .before .loop2 .inv) (c .before .before .before .before .before .before .loop2-test .taken) (c .before .before .before .before .before .if1 .left) (c .before .enum-told5 .given .1))
-
 ended-requires-6 :
     tie.Need-ended-requires-6 Inv-loop μ-loop Inv-loop3 μ-loop3 Inv-loop4 μ-loop4 Inv-loop2 μ-loop2
 ended-requires-6 c κs = search needs
+
+returns-6 :
+    tie.Need-returns-6 Inv-loop μ-loop Inv-loop3 μ-loop3 Inv-loop4 μ-loop4 Inv-loop2 μ-loop2
+returns-6 c = by-result (c .ended6 .ensures) (failed (c .before .before .before .before .before .before .before .loop2 .inv) (c .before .before .before .before .before .before .loop2-test .taken) (c .before .before .before .before .before .if1 .left) (c .before .enum-told5 .given .1))
 
 ended-requires-7 :
     tie.Need-ended-requires-7 Inv-loop μ-loop Inv-loop3 μ-loop3 Inv-loop4 μ-loop4 Inv-loop2 μ-loop2
 ended-requires-7 c κs = search needs
 
-returns-6 :
-    tie.Need-returns-6 Inv-loop μ-loop Inv-loop3 μ-loop3 Inv-loop4 μ-loop4 Inv-loop2 μ-loop2
-returns-6 c = by-result (c .ended6 .ensures) (done (c .before .before .before .loop2 .inv) (c .before .if7 .taken))
+ended-requires-8 :
+    tie.Need-ended-requires-8 Inv-loop μ-loop Inv-loop3 μ-loop3 Inv-loop4 μ-loop4 Inv-loop2 μ-loop2
+ended-requires-8 c κs = search needs
 
 returns-7 :
     tie.Need-returns-7 Inv-loop μ-loop Inv-loop3 μ-loop3 Inv-loop4 μ-loop4 Inv-loop2 μ-loop2
-returns-7 c = by-result (c .ended7 .ensures) (out-of-steps (c .before .before .before .loop2 .inv) (c .before .before .loop2-test .left) (c .before .if7 .left))
+returns-7 c = by-result (c .ended7 .ensures) (done (c .before .before .before .loop2 .inv) (c .before .if8 .taken))
+
+returns-8 :
+    tie.Need-returns-8 Inv-loop μ-loop Inv-loop3 μ-loop3 Inv-loop4 μ-loop4 Inv-loop2 μ-loop2
+returns-8 c = by-result (c .ended8 .ensures) (out-of-steps (c .before .before .before .loop2 .inv) (c .before .before .loop2-test .left) (c .before .if8 .left))
 
 pub take-spec : {M : Type 1} → statement M
 take-spec =
@@ -637,21 +636,24 @@ take-spec =
     cast-all
     cast-items
     items-start-requires
-    work-out-requires
     base-requires
     room-requires
+    stop-of-requires
     ended-requires-4
     returns-4
-    add-more
     loop3-holds
     sub-left
-    mul-pushed
-    element-copy-out-pushed
+    behind-item-requires
+    item-entry-requires
+    add-entries
     mul-entries-4
     array-set-from-entries-4
-    add-depth
     loop3-less
     loop3-again
+    ended-requires-5
+    returns-5
+    add-more
+    add-depth
     entry-requires
     mul-past
     array-set-from-past
@@ -678,9 +680,9 @@ take-spec =
     loop2-less-5
     loop2-again-5
     enum-told-5
-    ended-requires-5
-    returns-5
     ended-requires-6
-    ended-requires-7
     returns-6
-    returns-7)
+    ended-requires-7
+    ended-requires-8
+    returns-7
+    returns-8)
