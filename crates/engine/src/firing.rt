@@ -14,7 +14,7 @@ pub fn items_start(t: &[u8], shape: RuleShape) -> usize
 {
     let heads = shape.heads as usize;
     let guards = shape.guards as usize;
-    shape.start + 1 + 22 * heads + 24 * guards
+    shape.start as usize + 1 + 22 * heads + 24 * guards
 }
 
 // How deep the stack is under the body: Simplify, where the active fact is a removed head, has popped its entry.

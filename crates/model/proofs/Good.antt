@@ -160,11 +160,11 @@ items-lie t symbols p (suc n) w = omega (arith, w .0 .lies, item-behind t p)
 
 -- ---- the shapes behind a record
 
-noted-some : (shapes : List RuleShape) (s : Scan) → 1 ≤ s .rules → noted shapes s ≡ set shapes (s .rules - 1) (s .shape)
+pub noted-some : (shapes : List RuleShape) (s : Scan) → 1 ≤ s .rules → noted shapes s ≡ set shapes (s .rules - 1) (s .shape)
 unfolding noted
 noted-some shapes s h = let e : eqb (s .rules) 0 ≡ false = ne-eqb (s .rules) 0 (λ (z : s .rules ≡ 0). omega arith) in rw e
 
-noted-none : (shapes : List RuleShape) (s : Scan) → s .rules ≡ 0 → noted shapes s ≡ shapes
+pub noted-none : (shapes : List RuleShape) (s : Scan) → s .rules ≡ 0 → noted shapes s ≡ shapes
 unfolding noted
 noted-none shapes s h = rw h
 
@@ -244,11 +244,11 @@ not-both : (b : Bool) → b ≡ false → b ≡ true → ⊥
 not-both b e d = let z : _≡_ {A = ℕ} 0 1 = cc in omega arith
 
 module _ (k : Kind) (stage : ℕ) (e : outOfOrder k stage ≡ false) where
-  not-early : earliestOf k ≤ stage
+  pub not-early : earliestOf k ≤ stage
   unfolding outOfOrder
   not-early = ltb-false stage (earliestOf k) (or-first (ltb stage (earliestOf k)) (ltb (latestOf k) stage) e)
 
-  not-late : stage ≤ latestOf k
+  pub not-late : stage ≤ latestOf k
   unfolding outOfOrder
   not-late = ltb-false (latestOf k) stage (or-second (ltb stage (earliestOf k)) (ltb (latestOf k) stage) e)
 

@@ -113,8 +113,9 @@ impl Binding {
 }
 
 // Where a rule stands in its table's bytes, and how many parts of each sort it has; `heads` counts kept and removed ones.
+// Eight bytes, since 64 of them go by value with a reading.
 pub struct RuleShape {
-    pub start: usize,
+    pub start: u32,
     pub kept: u8,
     pub heads: u8,
     pub guards: u8,

@@ -34,7 +34,7 @@ fn list_rule(
     requires { ⌜ (headsStart shape + 22 * shape .heads ≤ length (now t)) × Room (now rules) (now heads) × (count + length (rulePlaces (now t) symbol (rule .0) shape) ≤ 256) ⌝ }
     ensures { λ r. ⌜ Holds (listOf (now (rules .entry)) (now (heads .entry)) count ++ rulePlaces (now (t .entry)) symbol (rule .0) shape) (now (rules .exit)) (now (heads .exit)) r ⌝ }
 {
-    let from = shape.start + 1;
+    let from = shape.start as usize + 1;
     let mut n = count;
     let mut k = shape.heads;
     while 0 < k {

@@ -60,7 +60,7 @@ pub fn judge(
         return Outcome::Nothing;
     }
     let shape = q.shape;
-    let at = shape.start + 1 + 22 * (shape.heads as usize);
+    let at = shape.start as usize + 1 + 22 * (shape.heads as usize);
     let truth = crate::guards::guard_value(t, at, shape.guards, values, bound);
     match truth {
         Truth::True => Outcome::Applies,
@@ -103,7 +103,7 @@ pub fn seek<'a>(
         return judge(t, q, past, chosen, k, values, bound);
     }
     let shape = q.shape;
-    let p = shape.start + 1 + 22 * k;
+    let p = shape.start as usize + 1 + 22 * k;
     let fewer = left - 1;
     let more = k + 1;
     let probe = crate::probing::probe(t, p, values, bound);
@@ -196,7 +196,7 @@ pub fn first_instance<'a>(
             let shape = q.shape;
             let place = q.place;
             let heads = shape.heads as usize;
-            let at = shape.start + 1 + 22 * (place.head as usize);
+            let at = shape.start as usize + 1 + 22 * (place.head as usize);
             if crate::matching::match_head(t, at, symbols, args, row, values, bound) {
                 return seek(
                     t,

@@ -1,36 +1,27 @@
--- What `table::read` keeps of a scan: at most 64 rules; and up to the last head of a rule the next record stands right behind its heads, so that a
+-- What `table::read` keeps of the rule that it reads: up to the last head of a rule the next record stands right behind its heads, so that a
 -- head that is read is the next one of its rule.
-use Prim.Native.Nat.{ℕ, _+_, _*_, _≤_, zero-le}
+use Prim.Native.Nat.{ℕ, _+_, _*_, _≤_}
 use mathlib.Core.Path.{_≡_, refl, sym, _∙_, subst}
 use mathlib.Core.List.{List}
-use mathlib.Core.Bool.{Bool, true, false, cond, _||_, true≢false}
+use mathlib.Core.Bool.{Bool, true, false, cond}
 use native.Mathlib.Omega.{arith}
 use lib.ListN.{length}
 use lib.Dec.{ltb}
-use borrow.Author.Tests.{leb-false, ltb-false}
+use borrow.Author.Tests.{ltb-false}
 use Rattle.records.specs.Named.{Follows, headless, head, same}
-use Rattle.model.specs.Records.{sizeOf, earliestOf, latestOf, outOfOrder, tooMany}
-use Rattle.model.specs.Reading.{behind, fieldsOf, orderedOf, testedOf, recordOf, firstScan}
+use Rattle.model.specs.Records.{sizeOf, earliestOf, latestOf, outOfOrder}
+use Rattle.model.specs.Reading.{behind, fieldsOf, orderedOf, testedOf, recordOf}
 use Rattle.model.specs.declared.Kind.{Kind}
 use Rattle.model.specs.declared.Kind.the-variants.{NextSymbol, NextRule, KeptHead, RemovedHead, Comparison, BodyFact, BodyFail, EndOfTable, Unknown}
+use Rattle.model.specs.declared.RuleShape.{RuleShape}
 use Rattle.model.specs.declared.Scan.{Scan}
 use Rattle.model.specs.declared.RecordStep.{RecordStep}
 use Rattle.model.specs.declared.RecordStep.the-variants.{Next, Stop, Done}
+use Rattle.model.proofs.Good.{Sane, not-early, not-late}
 
-pub record Sound (s : Scan) : Type 0 where
-  pub rules : s .rules ≤ 64
-  pub atHeads : 1 ≤ s .stage → s .stage ≤ 3 → s .at ≡ s .shape .start + 1 + 22 * s .shape .heads
-
-pub first-sound : Sound firstScan
-first-sound = record { rules = zero-le; atHeads = λ low high. absurd (omega arith) }
-
--- behind a good record: the scan is sound again, and the record followed the rule's heads or was none
-pub record Behind (t : List ℕ) (s s′ : Scan) : Type 0 where
-  pub sound : Sound s′
-  pub follows : Follows t (s .at) (s .shape) (s′ .shape)
-
+-- a good record followed the rule's heads, or was none
 abbrev After : List ℕ → Scan → RecordStep → Type 0
-After t s (Next s′) = Behind t s s′
+After t s (Next s′) = Follows t (s .at) (s .shape) (s′ .shape)
 After t s (Stop n p) = Unit {0}
 After t s (Done p) = Unit {0}
 
@@ -38,38 +29,29 @@ stopped : (t : List ℕ) (s : Scan) (b : Bool) (n p : ℕ) (y : RecordStep) → 
 stopped t s true n p y q = tt
 stopped t s false n p y q = q refl
 
-neither : (a b : Bool) → (a || b) ≡ false → (a ≡ false) × (b ≡ false)
-neither true b e = absurd (true≢false e)
-neither false b e = (refl, e)
-
-in-time : (k : Kind) (stage : ℕ) → outOfOrder k stage ≡ false → (earliestOf k ≤ stage) × (stage ≤ latestOf k)
-unfolding outOfOrder
-in-time k stage e = let n = neither (ltb stage (earliestOf k)) (ltb (latestOf k) stage) e in (ltb-false _ _ (n .0), ltb-false _ _ (n .1))
-
--- a record that stands where it may, is not one too many and lies in the table
-module _ (t : List ℕ) (s : Scan) (w : Sound s) where
+-- a record that stands where it may and lies in the table
+module _ (t : List ℕ) (s : Scan) (shapes : List RuleShape) (w : Sane t s shapes) where
   at-heads : (k : Kind) → outOfOrder k (s .stage) ≡ false → 1 ≤ earliestOf k → latestOf k ≤ 3 → s .at ≡ s .shape .start + 1 + 22 * s .shape .heads
-  at-heads k e low high = w .atHeads (omega (arith, in-time k (s .stage) e .0)) (omega (arith, in-time k (s .stage) e .1))
+  at-heads k e low high =
+      let late : s .stage ≤ 3 = omega (arith, not-late k (s .stage) e) in
+      let r = w .inRule (omega (arith, not-early k (s .stage) e)) in
+      omega (arith, r .atItems (omega arith), r .noGuard late)
 
-  behind-sound : (k : Kind) → ltb (length t) (s .at + sizeOf k) ≡ false → outOfOrder k (s .stage) ≡ false → tooMany k s ≡ false → After t s (behind s k)
+  behind-follows : (k : Kind) → ltb (length t) (s .at + sizeOf k) ≡ false → outOfOrder k (s .stage) ≡ false → After t s (behind s k)
   unfolding behind
-  behind-sound NextSymbol l o m = record { sound = record { rules = w .rules; atHeads = λ low high. absurd (omega arith) }; follows = same refl refl }
-  behind-sound NextRule l o m = record { sound = record { rules = omega (arith, leb-false 64 (s .rules) m); atHeads = λ low high. omega arith }; follows = headless refl }
-  behind-sound KeptHead l o m =
-      let e = at-heads KeptHead o (omega arith) (omega arith) in
-      record { sound = record { rules = w .rules; atHeads = λ low high. omega arith }; follows = head refl refl e (ltb-false (length t) (s .at + 22) l) }
-  behind-sound RemovedHead l o m =
-      let e = at-heads RemovedHead o (omega arith) (omega arith) in
-      record { sound = record { rules = w .rules; atHeads = λ low high. omega arith }; follows = head refl refl e (ltb-false (length t) (s .at + 22) l) }
-  behind-sound Comparison l o m = record { sound = record { rules = w .rules; atHeads = λ low high. absurd (omega arith) }; follows = same refl refl }
-  behind-sound BodyFact l o m = record { sound = record { rules = w .rules; atHeads = λ low high. absurd (omega arith) }; follows = same refl refl }
-  behind-sound BodyFail l o m = record { sound = record { rules = w .rules; atHeads = λ low high. absurd (omega arith) }; follows = same refl refl }
-  behind-sound EndOfTable l o m = tt
-  behind-sound Unknown l o m = tt
+  behind-follows NextSymbol l o = same refl refl
+  behind-follows NextRule l o = headless refl
+  behind-follows KeptHead l o = head refl refl (at-heads KeptHead o (omega arith) (omega arith)) (ltb-false (length t) (s .at + 22) l)
+  behind-follows RemovedHead l o = head refl refl (at-heads RemovedHead o (omega arith) (omega arith)) (ltb-false (length t) (s .at + 22) l)
+  behind-follows Comparison l o = same refl refl
+  behind-follows BodyFact l o = same refl refl
+  behind-follows BodyFail l o = same refl refl
+  behind-follows EndOfTable l o = tt
+  behind-follows Unknown l o = tt
 
-  record-sound : After t s (recordOf t s)
+  record-follows : After t s (recordOf t s)
   unfolding recordOf testedOf orderedOf fieldsOf
-  record-sound = search (stopped, behind-sound) depth 20
+  record-follows = search (stopped, behind-follows) depth 20
 
-  pub next-behind : {r : RecordStep} {s′ : Scan} → r ≡ recordOf t s → r ≡ Next s′ → Behind t s s′
-  next-behind e d = subst (After t s) (sym e ∙ d) record-sound
+  pub next-follows : {r : RecordStep} {s′ : Scan} → r ≡ recordOf t s → r ≡ Next s′ → Follows t (s .at) (s .shape) (s′ .shape)
+  next-follows e d = subst (After t s) (sym e ∙ d) record-follows

@@ -31,11 +31,11 @@ fn with_symbol(s: Scan) -> Scan
 }
 
 fn with_rule(s: Scan) -> Scan
-    requires { ⌜ (s .rules < 64) × (s .at + 1 < 2 ^ 64) ⌝ }
+    requires { ⌜ (s .rules < 64) × (s .at < 2 ^ 32) ⌝ }
     ensures { λ r. ⌜ r ≡ withRule s ⌝ }
 {
     let shape = RuleShape {
-        start: s.at,
+        start: s.at as u32,
         kept: 0,
         heads: 0,
         guards: 0,
@@ -118,7 +118,7 @@ fn with_item(r: RuleShape) -> RuleShape
 }
 
 fn behind(s: Scan, k: Kind) -> RecordStep
-    requires { ⌜ (tooMany k s ≡ false) × (s .at + sizeOf k < 2 ^ 64) ⌝ }
+    requires { ⌜ (tooMany k s ≡ false) × (s .at < 2 ^ 32) ⌝ }
     ensures { λ r. ⌜ r ≡ behind s k ⌝ }
 {
     let shape = s.shape;
@@ -139,7 +139,7 @@ fn behind(s: Scan, k: Kind) -> RecordStep
 
 // 20, 22
 fn fields(t: &[u8], s: Scan, k: Kind, named: &[bool; 16]) -> RecordStep
-    requires { ⌜ (tooMany k s ≡ false) × (s .at + sizeOf k ≤ length (now t)) × Named (now t) (s .shape) (now named) ⌝ }
+    requires { ⌜ (tooMany k s ≡ false) × (s .at + sizeOf k ≤ length (now t)) × (s .at < 2 ^ 32) × Named (now t) (s .shape) (now named) ⌝ }
     ensures { λ r. ⌜ r ≡ fieldsOf (now (t .entry)) s k ⌝ }
 {
     let at = s.at;
@@ -154,7 +154,7 @@ fn fields(t: &[u8], s: Scan, k: Kind, named: &[bool; 16]) -> RecordStep
 
 // 18, 21, 19
 fn ordered(t: &[u8], s: Scan, k: Kind, named: &[bool; 16]) -> RecordStep
-    requires { ⌜ (s .at + sizeOf k ≤ length (now t)) × Named (now t) (s .shape) (now named) ⌝ }
+    requires { ⌜ (s .at + sizeOf k ≤ length (now t)) × (s .at < 2 ^ 32) × Named (now t) (s .shape) (now named) ⌝ }
     ensures { λ r. ⌜ r ≡ orderedOf (now (t .entry)) s k ⌝ }
 {
     let at = s.at;
@@ -172,7 +172,7 @@ fn ordered(t: &[u8], s: Scan, k: Kind, named: &[bool; 16]) -> RecordStep
 
 // 16, 17
 fn tested(t: &[u8], s: Scan, k: Kind, named: &[bool; 16]) -> RecordStep
-    requires { ⌜ (s .at < length (now t)) × Named (now t) (s .shape) (now named) ⌝ }
+    requires { ⌜ (s .at < length (now t)) × (s .at < 2 ^ 32) × Named (now t) (s .shape) (now named) ⌝ }
     ensures { λ r. ⌜ r ≡ testedOf (now (t .entry)) s k ⌝ }
 {
     let at = s.at;
@@ -188,7 +188,7 @@ fn tested(t: &[u8], s: Scan, k: Kind, named: &[bool; 16]) -> RecordStep
 
 // The record where the scan stands; the variables of the heads of the rule that is being read are marked.
 pub fn read_record(t: &[u8], s: Scan, named: &[bool; 16]) -> RecordStep
-    requires { ⌜ Named (now t) (s .shape) (now named) ⌝ }
+    requires { ⌜ (s .at < 2 ^ 32) × Named (now t) (s .shape) (now named) ⌝ }
     ensures { λ r. ⌜ r ≡ recordOf (now (t .entry)) s ⌝ }
 {
     let at = s.at;

@@ -17,7 +17,7 @@ pub fn items_start(shape: RuleShape) -> usize
     requires { ⌜ itemsStart shape ≤ 23681 ⌝ }
     ensures { λ r. ⌜ r ≡ itemsStart shape ⌝ }
 {
-    shape.start + 1 + 22 * (shape.heads as usize) + 24 * (shape.guards as usize)
+    shape.start as usize + 1 + 22 * (shape.heads as usize) + 24 * (shape.guards as usize)
 }
 
 // Whether the removed heads of a rule weigh more than its body.
@@ -25,7 +25,7 @@ fn loses_weight(table: &[u8], weights: &[u8], shape: RuleShape) -> bool
     requires { ⌜ Lies shape ⌝ }
     ensures { λ r. ⌜ r ≡ losesWeight (weightIn (now (weights .entry))) (ruleOf (now (table .entry)) shape) ⌝ }
 {
-    let from = shape.start + 1 + 22 * (shape.kept as usize);
+    let from = shape.start as usize + 1 + 22 * (shape.kept as usize);
     let removed = heads::heads_weight(table, weights, from, shape.heads - shape.kept);
     let body = bodies::body_weight(table, weights, items_start(shape), shape.items);
     body < removed
@@ -81,7 +81,7 @@ fn rule_heads_with(table: &[u8], shape: RuleShape, symbol: Symbol) -> u32
     requires { ⌜ Lies shape ⌝ }
     ensures { λ r. ⌜ Counted (headsWith symbol (heads (ruleOf (now (table .entry)) shape))) 4 r ⌝ }
 {
-    heads::heads_with(table, shape.start + 1, shape.heads, symbol)
+    heads::heads_with(table, shape.start as usize + 1, shape.heads, symbol)
 }
 
 // How many head places a symbol has: as many as heads with it, over all rules.

@@ -43,7 +43,7 @@ fn raise(table: &[u8], weights: &[u8], shape: RuleShape) -> Change
     requires { ⌜ Lies shape ⌝ }
     ensures { λ r. ⌜ r ≡ raiseOf (now (weights .entry)) (ruleOf (now (table .entry)) shape) ⌝ }
 {
-    let from = shape.start + 1 + 22 * (shape.kept as usize);
+    let from = shape.start as usize + 1 + 22 * (shape.kept as usize);
     let count = shape.heads - shape.kept;
     let removed = heads::heads_weight(table, weights, from, count);
     let body = bodies::body_weight(table, weights, rules::items_start(shape), shape.items);

@@ -22,6 +22,7 @@ list-rule-spec =
     (tie.spec
     Inv-loop
     μ-loop
+    (λ c. search needs)
     (λ c. omega arith)
     (λ c. rule-begin _ _ _ _ _ _ _ _ (c .before .pre .1))
     (λ c. omega arith)

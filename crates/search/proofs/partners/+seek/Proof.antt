@@ -61,6 +61,7 @@ pub +seek-spec : {M : Type 1} → statement M
     (λ c κs. ready-judge (c .before .before .before .before .before .before .before .before .before .pre .1) refl (c .before .before .before .before .partner-from .ensures) (c .before .before .before .if1 .taken))
     (λ c. judged-last (c .before .before .before .before .before .before .before .before .before .before .pre .1) refl (c .before .before .before .before .before .partner-from .ensures) (c .before .before .before .before .if1 .taken) _ _ _ (c .judge .ensures))
     (λ c. search needs)
+    (λ c. search needs)
     (λ c. omega (arith, some-left (c .before .before .before .before .before .before .before .before .pre .1) refl (c .before .before .before .partner-from .ensures) (c .before .before .if1 .left), c .before .before .before .before .before .before .before .before .pre .1 .fewHeads))
     (λ c. omega (arith, head-in (c .before .before .before .before .before .before .before .before .pre .1) refl (c .before .before .before .partner-from .ensures) (c .before .before .if1 .left)))
     (λ c. search needs)

@@ -13,11 +13,14 @@ enum-known-found c = search needs
 cast-heads : tie.Need-cast-heads
 cast-heads c = search needs
 
+cast-at : tie.Need-cast-at
+cast-at c = search needs
+
 add-at : tie.Need-add-at
 add-at c = search needs
 
-cast-at : tie.Need-cast-at
-cast-at c = search needs
+cast-at-2 : tie.Need-cast-at-2
+cast-at-2 c = search needs
 
 mul-at : tie.Need-mul-at
 mul-at c = search needs
@@ -53,8 +56,9 @@ first-instance-spec =
     row-of-requires
     enum-known-found
     cast-heads
-    add-at
     cast-at
+    add-at
+    cast-at-2
     mul-at
     add-at-2
     match-head-requires

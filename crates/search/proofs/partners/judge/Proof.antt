@@ -13,11 +13,14 @@ recorded-requires c κs = search needs
 returns : tie.Need-returns
 returns c = search seen-before
 
+cast-at : tie.Need-cast-at
+cast-at c = search needs
+
 add-at : tie.Need-add-at
 add-at c = search needs
 
-cast-at : tie.Need-cast-at
-cast-at c = search needs
+cast-at-2 : tie.Need-cast-at-2
+cast-at-2 c = search needs
 
 mul-at : tie.Need-mul-at
 mul-at c = search needs
@@ -53,8 +56,9 @@ judge-spec =
     entry-requires
     recorded-requires
     returns
-    add-at
     cast-at
+    add-at
+    cast-at-2
     mul-at
     add-at-2
     guard-value-requires

@@ -17,5 +17,5 @@ ordered-spec =
     (λ c. search chain depth 7)
     (λ c κs. search needs)
     (λ c. search chain depth 7)
-    (λ c κs. (flag (c .before .too-many .ensures) (c .if3 .left), search needs, search needs))
+    (λ c κs. (flag (c .before .too-many .ensures) (c .if3 .left), search needs, search needs, search needs))
     (λ c. search chain depth 7))

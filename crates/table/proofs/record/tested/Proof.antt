@@ -16,5 +16,5 @@ tested-spec =
     (λ c. rw (← c .before .size-of .ensures) (search chain))
     (λ c. search needs)
     (λ c. rw (← c .before .before .size-of .ensures) (search (cut, chain)))
-    (λ c κs. (rw (← c .before .before .size-of .ensures) (search (whole, needs)), search needs))
+    (λ c κs. (rw (← c .before .before .size-of .ensures) (search (whole, needs)), search needs, search needs))
     (λ c. rw (← c .before .before .before .size-of .ensures) (search (whole, chain))))

@@ -9,5 +9,6 @@ rule-heads-with-spec =
     tie.close
     (tie.spec
     (λ c. search needs)
+    (λ c. search needs)
     (λ c κs. search needs)
     (λ c. search (rule-with, needs)))
