@@ -17,8 +17,8 @@
  * buffers of a call overlap. Nothing is kept from call to call and nothing is allocated, so calls may be made from several threads at
  * once, each with its own buffers to write; they may read the same table, as long as nobody writes it meanwhile.
  *
- * Stack. Over the stored cases of this project a run took at most 23,736 bytes of machine stack on x86-64, a check 3,432, a weighing
- * 4,584 and looking for weights 5,656 (docs/MEASUREMENTS.md). These are measured, not proved: allow 26,624 for a run, and 6,656 for any
+ * Stack. Over the stored cases of this project a run took at most 21,616 bytes of machine stack on x86-64, a check 1,896, a weighing
+ * 3,080 and looking for weights 2,616 (docs/MEASUREMENTS.md). These are measured, not proved: allow 26,624 for a run, and 6,656 for any
  * other call.
  *
  * Numbers of a run that was admitted:

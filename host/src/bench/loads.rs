@@ -14,12 +14,23 @@ pub struct Load {
 /// Readings of a cycle.
 const READINGS: i32 = 64;
 
-/// What a gateway runs in a cycle: 64 readings, with rules of two, three and four heads.
+/// What a gateway runs in a cycle: 64 readings, with rules of two, three and four heads. Before
+/// them a call with none, which shows what each call takes whatever it runs.
 pub fn cycles() -> Vec<Load> {
     let mut loads: Vec<Load> = [1, 4, 16, 64].map(lowest).into();
+    loads.insert(0, nothing());
     loads.push(middle());
     loads.push(four_wheels());
     loads
+}
+
+/// Table A with no readings.
+fn nothing() -> Load {
+    Load {
+        name: "table A, no readings".to_string(),
+        table: table_a(),
+        goal: Vec::new(),
+    }
 }
 
 /// Table A with 64 readings on so many segments.
