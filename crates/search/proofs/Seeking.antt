@@ -11,7 +11,7 @@ use native.Mathlib.Numerals.{add-one}
 use lib.Dec.{eqb, leb}
 use lib.IntN.{ℤ}
 use lib.ListN.{getD, set, take, length, length-set, length-map}
-use lib.Seq.{take-suc-set, length-take-le, getD-take, getD-set-same, getD-set-other}
+use lib.Seq.{take-suc-set, take-set-le, length-take-le, getD-take, getD-set-same, getD-set-other, set-getD}
 use borrow.Author.Tests.{eq-eqb, ne-eqb, eqb-true, eqb-false, leb-true, leb-false}
 use Rattle.numbers.specs.declared.Truth.{Truth}
 use Rattle.numbers.specs.declared.Truth.the-variants.{True, False, Undefined as Unknown}
@@ -91,11 +91,6 @@ chosen-length : (chosen : List ℕ) (k : ℕ) → length chosen ≡ 4 → k ≤ 
 unfolding idsOf
 chosen-length chosen k l h = length-map (take k chosen) factId ∙ length-take-le k chosen (omega arith)
 
-take-set : (l : List ℕ) (k x : ℕ) → take k (set l k x) ≡ take k l
-take-set l zero x = refl
-take-set [] (suc k) x = refl
-take-set (y ∷ l) (suc k) x = ap (λ (m : List ℕ). y ∷ m) (take-set l k x)
-
 take-less : (l m : List ℕ) (k : ℕ) → take (suc k) l ≡ take (suc k) m → take k l ≡ take k m
 take-less l m k e = sym (shorter l k) ∙ ap (take k) e ∙ shorter m k
   where
@@ -106,7 +101,7 @@ take-less l m k e = sym (shorter l k) ∙ ap (take k) e ∙ shorter m k
 
 -- the ones before k are as they were, after a store at k and a search that keeps the ones before k + 1
 pub kept-before : (chosen₀ chosen after : List ℕ) (k x : ℕ) → take (k + 1) after ≡ take (k + 1) (set chosen k x) → take k chosen ≡ take k chosen₀ → take k after ≡ take k chosen₀
-kept-before chosen₀ chosen after k x e w = take-less after (set chosen k x) k (rw (add-one k) at e) ∙ take-set chosen k x ∙ w
+kept-before chosen₀ chosen after k x e w = take-less after (set chosen k x) k (rw (add-one k) at e) ∙ take-set-le k chosen k x (omega arith) ∙ w
 
 -- ---- the search
 
@@ -304,17 +299,6 @@ module _ (t : List ℕ) (q : Quest) (past : List (List ℕ)) (symbols ids : List
 
 -- ---- the active fact keeps its own place: with it among the chosen, the search from head `from` on is the one for the next partner
 
-take-under : (l : List ℕ) (k i x : ℕ) → k ≤ i → take k (set l i x) ≡ take k l
-take-under l zero i x h = refl
-take-under [] (suc k) i x h = refl
-take-under (y ∷ l) (suc k) zero x h = absurd (omega arith)
-take-under (y ∷ l) (suc k) (suc i) x h = ap (λ (m : List ℕ). y ∷ m) (take-under l k i x (omega arith))
-
-set-there : (l : List ℕ) (i x : ℕ) → i < length l → getD l i 0 ≡ x → set l i x ≡ l
-set-there [] i x h e = absurd (omega arith)
-set-there (y ∷ l) zero x h e = ap (λ (z : ℕ). z ∷ l) (sym e)
-set-there (y ∷ l) (suc i) x h e = ap (λ (m : List ℕ). y ∷ m) (set-there l i x (omega arith) e)
-
 -- the next partner's head, by the test
 module _ (k head : ℕ) where
   pub from-own : k ≡ head → k + 1 ≡ partnerFrom k head
@@ -377,8 +361,8 @@ module _ {t : List ℕ} {q : Quest} {past : List (List ℕ)} {chosen₀ : List �
     kept-under = go (leb from (q .place .head)) refl
       where
         go : (x : Bool) → leb from (q .place .head) ≡ x → take from (set chosen₀ (q .place .head) a) ≡ take from chosen₀
-        go true e = take-under chosen₀ from (q .place .head) a (leb-true _ _ e)
-        go false e = ap (take from) (set-there chosen₀ (q .place .head) a (omega (arith, place-few, r .wholeChosen)) (r .seated (leb-false _ _ e) ∙ sym ea))
+        go true e = take-set-le from chosen₀ (q .place .head) a (leb-true _ _ e)
+        go false e = ap (take from) (ap (set chosen₀ (q .place .head)) (ea ∙ sym (r .seated (leb-false _ _ e))) ∙ set-getD chosen₀ (q .place .head) 0)
 
     module _ (symbols ids : List ℕ) (args : List ℤ) (b : Binding) where
       same-sought : soughtOf t q past symbols ids args from (idsOf from chosen₀) b ≡ soughtOf t q past symbols ids args k (idsOf k (set chosen₀ (q .place .head) a)) b
@@ -408,20 +392,20 @@ module _ {t : List ℕ} {q : Quest} {past : List (List ℕ)} {chosen₀ : List �
           go true e = take-less after (set chosen₀ (q .place .head) a) from (rw (next-is e, add-one from) at (s .before))
           go false e = rw (next-is e) at (s .before)
 
+    -- the next partner's head stands before the active fact's place or behind it
+    either-side : {P : Type 0} → (k < q .place .head → k + left + 1 ≡ q .shape .heads → P) → (q .place .head < k → k + left ≡ q .shape .heads → P) → P
+    either-side {P} before behind = go (leb (q .place .head) k) refl
+      where
+        go : (x : Bool) → leb (q .place .head) k ≡ x → P
+        go true e = let h : q .place .head ≤ k = leb-true _ _ e in let d = seat .elsewhere in let l : q .place .head < k = omega (arith, d) in behind l (seat .behind l)
+        go false e = let l : k < q .place .head = leb-false _ _ e in before l (seat .ahead l)
+
     -- no partner is left: the heads are through
     through : left ≡ 0 → k ≡ q .shape .heads
-    through z = go (leb (q .place .head) k) refl
-      where
-        go : (x : Bool) → leb (q .place .head) k ≡ x → k ≡ q .shape .heads
-        go true e = let h : q .place .head ≤ k = leb-true _ _ e in let d = seat .elsewhere in let l : q .place .head < k = omega (arith, d) in omega (arith, seat .behind l)
-        go false e = let l : k < q .place .head = leb-false _ _ e in omega (arith, seat .ahead l, r .headIn)
+    through z = either-side (λ l e. omega (arith, r .headIn)) (λ l e. omega arith)
 
     pub some-left : (left ≡ 0 → ⊥) → k < q .shape .heads
-    some-left more = go (leb (q .place .head) k) refl
-      where
-        go : (x : Bool) → leb (q .place .head) k ≡ x → k < q .shape .heads
-        go true e = let h : q .place .head ≤ k = leb-true _ _ e in let d = seat .elsewhere in let l : q .place .head < k = omega (arith, d) in omega (arith, seat .behind l, more)
-        go false e = let l : k < q .place .head = leb-false _ _ e in omega (arith, seat .ahead l, r .headIn)
+    some-left more = either-side (λ l e. omega (arith, r .headIn)) (λ l e. omega (arith, more))
 
     pub ready-judge : left ≡ 0 → Matched t q past (set chosen₀ (q .place .head) a) k
     ready-judge z = record {

@@ -97,6 +97,7 @@ pub fn seek<'a>(
     let active = q.active;
     let place = q.place;
     let head = place.head as usize;
+    // The active fact keeps its own place.
     chosen[head] = active.0;
     let k = partner_from(from, head);
     if left == 0 {
