@@ -1,27 +1,24 @@
 -- How a run begins: what good tables and goals give to the code, and the loop that loads the goal.
-use mathlib.Core.Path.{_≡_, refl, sym, ap, subst, _∙_}
+use mathlib.Core.Path.{_≡_, sym, ap, subst, _∙_}
 use mathlib.Core.List.{List}
 use Prim.Native.Nat.{ℕ, suc, _+_, _-_, _*_, _/_, _<_, _≤_}
 use native.Mathlib.Nat.{mul-le-mul-left}
 use native.Mathlib.Omega.{arith}
 use lib.IntN.{ℤ, pos}
-use lib.ListN.{getD, set, length, replicate, length-replicate}
+use lib.ListN.{getD, set, length, replicate}
 use Rattle.model.specs.declared.Fact.{Fact}
 use Rattle.model.specs.declared.Item.the-variants.{Waiting}
 use Rattle.model.specs.declared.Entry.{Entry}
 use Rattle.model.specs.declared.Stored.{Stored}
 use Rattle.model.specs.declared.HeadPlace.{HeadPlace}
 use Rattle.model.specs.declared.Reading.{Reading}
-use Rattle.model.specs.declared.Verdict.{Verdict}
-use Rattle.model.specs.declared.Verdict.the-variants.{Good}
 use Rattle.model.specs.declared.CallResult.{CallResult}
 use Rattle.model.specs.Reading.{readOf, noShape}
-use Rattle.model.specs.Goal.{goalVerdict, goalOf, factAt}
+use Rattle.model.specs.Goal.{goalOf, factAt}
 use Rattle.model.specs.Run.{Ended}
-use Rattle.model.specs.Steps.{waiting}
 use Rattle.model.proofs.Good.{GoodTable, good-table, GoodGoal, good-goal}
 use Rattle.model.proofs.Decoded.{goal-at, goal-length}
-use Rattle.engine.specs.Arrays.{Columns, columnsOf, resultOf, Begun, Finished}
+use Rattle.engine.specs.Arrays.{columnsOf, Begun, Finished}
 use Rattle.engine.proofs.Rows.{rows-fresh}
 use Rattle.engine.proofs.Stacked.{Loading, load-more}
 use Rattle.engine.proofs.Running.{Running, run-start}

@@ -1,8 +1,7 @@
 -- The call of a run: its tests in document 01's order, and what is written only for 0.
-use mathlib.Core.Path.{_≡_, refl, sym, ap, subst, _∙_}
-use mathlib.Core.Bool.{Bool, true, false}
+use mathlib.Core.Path.{_≡_, refl, sym, ap, _∙_}
 use mathlib.Core.List.{List}
-use Prim.Native.Nat.{ℕ, zero, suc, _+_, _*_, _<_, _≤_}
+use Prim.Native.Nat.{ℕ, zero, suc, _*_, _<_, _≤_}
 use native.Mathlib.Omega.{arith}
 use lib.IntN.{ℤ}
 use lib.ListN.{length}
@@ -17,7 +16,7 @@ use Rattle.model.specs.Table.{tableOf}
 use Rattle.model.specs.Goal.{goalVerdict, goalOf}
 use Rattle.model.specs.Run.{Ended, run}
 use Rattle.model.specs.Answer.{answered}
-use Rattle.model.specs.Calls.{RunOutput, refusal, answerIf, outputOf, refusedRun, ifRoom, ifLimit, ifGoal, ifTable, runOf}
+use Rattle.model.specs.Calls.{refusal, answerIf, outputOf, runOf}
 use Rattle.model.proofs.Good.{refusal-small, goal-places}
 use Rattle.search.specs.Views.{rowsFrom}
 use Rattle.engine.specs.Arrays.{Finished, Passed, Ran}

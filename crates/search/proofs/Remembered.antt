@@ -1,17 +1,17 @@
 -- Laws of the chosen identifiers and of the history on plain values: what the code's loops and tests over arrays of numbers come to.
 use mathlib.Core.Path.{_≡_, refl, sym, ap, _∙_}
 use mathlib.Core.Bool.{Bool, true, false, not, _&&_, _||_}
-use mathlib.Core.List.{List, [], _∷_, _++_, map}
-use Prim.Native.Nat.{ℕ, zero, suc, _+_, _*_, _-_, _<_, _≤_}
+use mathlib.Core.List.{List, [], _∷_, map}
+use Prim.Native.Nat.{ℕ, zero, suc, _+_, _<_, _≤_}
 use native.Mathlib.Omega.{arith}
 use native.Mathlib.Numerals.{add-one}
 use lib.Dec.{eqb}
-use lib.ListN.{getD, set, take, drop, length, length-map, drop-of-length-le, List·getD-eq-default, List·getD-map}
-use lib.Seq.{slice, slice-cons, slice-empty, getD-take, length-take-le}
+use lib.ListN.{getD, set, take, drop, length, drop-of-length-le, List·getD-eq-default, List·getD-map}
+use lib.Seq.{slice, slice-cons, getD-take, length-take-le}
 use borrow.Author.Tests.{eq-eqb, ne-eqb}
 use Rattle.model.specs.declared.FactId.{FactId}
 use Rattle.model.specs.declared.RuleNumber.{RuleNumber}
-use Rattle.model.specs.Search.{Fired, isAmong, nobody, four, firedOf, sameId, sameIds, sameFired, inHistory}
+use Rattle.model.specs.Search.{Fired, isAmong, nobody, four, firedOf, sameIds, sameFired, inHistory}
 use Rattle.model.specs.Steps.{names, keep, pruned}
 use Rattle.search.specs.Views.{factId, idsOf, Held, firedAt, pastOf, Pruned}
 use Rattle.search.proofs.Compacting.{Compacting, keep-map, compact-none, compact-drop, compact-keep}

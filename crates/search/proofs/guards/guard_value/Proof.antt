@@ -1,5 +1,5 @@
 -- `search::guards::guard_value` meets its contract: what is left of the list has the value of the whole, up to the first comparison that is not true.
-use mathlib.Core.Path.{_≡_, refl, sym, _∙_}
+use mathlib.Core.Path.{_≡_, refl}
 use Prim.Native.Nat.{_+_, _*_, _≤_}
 use lib.ListN.{length}
 use Rattle.model.specs.Guards.{guardValue}
