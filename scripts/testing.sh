@@ -1,20 +1,24 @@
-# For tests and measurements to source: what they need beyond the toolchain, from Debian's packages, and what they do alike.
+# For scripts and tests to source: what they need beyond the toolchain, from Debian's packages, and what they do alike.
 # It defines functions and runs nothing.
 
 # install_packages PACKAGE...: only root on Debian can.
 install_packages() {
     [ "$(id -u)" -eq 0 ] || return 1
+    command -v apt-get > /dev/null || return 1
+    echo "installing $*" >&2
     export DEBIAN_FRONTEND=noninteractive
     apt-get -qq update && apt-get -qq install --yes --no-install-recommends "$@" > /dev/null
 }
 
-# have COMMAND PACKAGE...: sees that a command is there, and installs the packages where it is not.
+# have COMMAND PACKAGE...: sees that a command is there, and installs the packages where it is not. Where that fails, missing says so.
 have() {
     local command=$1
     shift
     command -v "$command" > /dev/null && return
     install_packages "$@"
-    command -v "$command" > /dev/null
+    command -v "$command" > /dev/null && return
+    missing="there is no $command here, and it could not be installed (Debian's $*)"
+    return 1
 }
 
 # Rust, for the second engine.
@@ -22,45 +26,54 @@ have_rust() {
     have cargo cargo rustc
 }
 
-# A C compiler for x86-64, and what runs its programs: sets compiler and runner.
+# The programs and the library that rt writes are for x86-64. Elsewhere Debian's cross compilers build for it, and qemu runs what is
+# built, with the shared libraries of the cross compilers.
+on_x86() {
+    [ "$(uname -m)" = x86_64 ]
+}
+
+# What starts a program for x86-64, linked statically or not: sets runner.
+have_runner() {
+    local libraries=/usr/x86_64-linux-gnu
+    runner=()
+    on_x86 && return
+    runner=(qemu-x86_64 -L "$libraries")
+    have qemu-x86_64 qemu-user && have "$libraries/lib64/ld-linux-x86-64.so.2" libc6-amd64-cross
+}
+
+# A C compiler for x86-64: sets compiler.
 have_c() {
-    if [ "$(uname -m)" = x86_64 ]; then
+    if on_x86; then
         compiler=gcc
-        runner=()
         have gcc gcc libc6-dev
     else
         compiler=x86_64-linux-gnu-gcc
-        runner=(qemu-x86_64)
-        have x86_64-linux-gnu-gcc gcc-x86-64-linux-gnu libc6-dev-amd64-cross && have qemu-x86_64 qemu-user
+        have "$compiler" gcc-x86-64-linux-gnu libc6-dev-amd64-cross
     fi
-}
-
-# What starts the program run, which is for x86-64: sets run. Elsewhere it is started under qemu, with Debian's C library for x86-64.
-have_run() {
-    run=(target/bin/run)
-    [ "$(uname -m)" = x86_64 ] && return
-    run=(qemu-x86_64 -L /usr/x86_64-linux-gnu target/bin/run)
-    have qemu-x86_64 qemu-user || return
-    [ -e /usr/x86_64-linux-gnu/lib64/ld-linux-x86-64.so.2 ] || have x86_64-linux-gnu-gcc gcc-x86-64-linux-gnu libc6-dev-amd64-cross
 }
 
 # The same for C++: sets cxx.
 have_cxx() {
-    if [ "$(uname -m)" = x86_64 ]; then
+    if on_x86; then
         cxx=g++
         have g++ g++
     else
         cxx=x86_64-linux-gnu-g++
-        have x86_64-linux-gnu-g++ g++-x86-64-linux-gnu
+        have "$cxx" g++-x86-64-linux-gnu
     fi
 }
 
-# Writes target/staticlib/libgateway.a, and shows what rt says only where that fails.
-make_library() {
+# quietly COMMAND...: shows what a command prints only where it fails.
+quietly() {
     local log
-    log=$(rt staticlib gateway 2>&1) && return
+    log=$("$@" 2>&1) && return
     echo "$log"
     return 1
+}
+
+# Writes target/staticlib/libgateway.a.
+make_library() {
+    quietly rt staticlib gateway
 }
 
 # link_c SOURCE PROGRAM [FLAG...]: builds a C program with the library. have_c and make_library come first.
@@ -70,7 +83,13 @@ link_c() {
     "$compiler" -std=c89 -pedantic-errors -Wall -Wextra -Werror -O2 -Iinclude "$@" "$source" target/staticlib/libgateway.a -o "$program"
 }
 
-# Says why nothing was tried, and ends.
+# Says why it does not go on, and ends.
+stop() {
+    echo "$(basename "$0"): $*" >&2
+    exit 1
+}
+
+# The same for a test: nothing was tried.
 give_up() {
     echo "$(basename "$0"): $*"
     echo "0 passed, 1 failed"

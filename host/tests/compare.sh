@@ -15,8 +15,9 @@ failed=0
 made=$(mktemp -d) || exit 2
 trap 'rm -rf "$made"' EXIT
 
-have_rust || give_up "there is no cargo here, and it could not be installed"
-have_c || give_up "there is no C compiler for x86-64 here, or nothing to run its programs, and it could not be installed"
+have_rust || give_up "$missing"
+have_c || give_up "$missing"
+have_runner || give_up "$missing"
 make_library || give_up "rt did not write the static library"
 link_c host/c/replay.c "$made/replay" -static || give_up "the C program could not be built"
 (cd host && cargo build --quiet --offline --release -j1 --bin compare) || give_up "the second engine could not be built"

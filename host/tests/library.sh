@@ -25,8 +25,9 @@ try() {
     fi
 }
 
-have_c || give_up "there is no C compiler for x86-64 here, or nothing to run its programs, and it could not be installed"
-have_cxx || give_up "there is no C++ compiler for x86-64 here, and it could not be installed"
+have_c || give_up "$missing"
+have_cxx || give_up "$missing"
+have_runner || give_up "$missing"
 make_library || give_up "rt did not write the static library"
 
 replay() {
@@ -76,7 +77,7 @@ watch_gateway() {
 
 # The second engine's test that links the library, so that the declarations for Rust are tried as those for C are.
 rust_links() {
-    have_rust || { echo "library.sh: there is no cargo here, and it could not be installed"; return 1; }
+    have_rust || { echo "library.sh: $missing"; return 1; }
     (cd host && CARGO_TARGET_DIR="$OLDPWD/target/host" cargo test --quiet --offline --release -j1 --features gateway --test library) \
         > "$made/log" 2>&1 && grep -q '^test result: ok. [1-9]' "$made/log" && return
     cat "$made/log"
@@ -90,8 +91,8 @@ try "running the gateway" gateway "$made/gateway"
 try "words for every number" endings
 try "building the gateway as C++" build_cxx
 try "running the gateway built as C++" gateway "$made/gateway-cxx"
-if [ "$(uname -m)" = x86_64 ]; then
-    have valgrind valgrind libc6-dbg || echo "library.sh: there is no valgrind here, and it could not be installed"
+if on_x86; then
+    have valgrind valgrind libc6-dbg || echo "library.sh: $missing"
     try "building programs for valgrind" valgrind_build
     try "the stored cases under valgrind" watch_replay
     try "the gateway under valgrind" watch_gateway

@@ -5,7 +5,7 @@ cd "$(dirname "$0")/../.." || exit 2
 . scripts/testing.sh
 export CARGO_TARGET_DIR="$PWD/target/host"
 
-have_rust || give_up "there is no cargo here, and it could not be installed"
+have_rust || give_up "$missing"
 
 log=$(mktemp)
 (cd host && cargo test --quiet --offline --release -j1) > "$log" 2>&1

@@ -11,7 +11,7 @@ groups=(check goal run weigh find)
 fresh=$(mktemp -d) || exit 2
 trap 'rm -rf "$fresh"' EXIT
 
-have_rust || give_up "there is no cargo here, and it could not be installed"
+have_rust || give_up "$missing"
 (cd host && cargo run --quiet --offline --release -j1 --bin vectors -- "$fresh" "${groups[@]}") ||
     give_up "the second engine's program did not run to its end"
 
