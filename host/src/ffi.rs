@@ -5,6 +5,12 @@ use crate::cases::{Call, Case};
 use crate::outcome::Outcome;
 use crate::verdict::{Verdict, FILL};
 
+// Elsewhere a program would not link, and the linker says it at length.
+#[cfg(not(target_arch = "x86_64"))]
+compile_error!(
+    "the proved library links into programs for x86-64 alone; host/tests/library.sh and host/tests/compare.sh try it on this machine"
+);
+
 /// Bytes before and after each buffer that no call may touch.
 const GUARD: usize = 64;
 /// What the words of a result hold before a call; every call writes all of them.
