@@ -15,10 +15,12 @@ SEED ?= 2
 soak:
 	@bash host/tests/compare.sh $(CASES) $(SEED)
 
-# The static library for C on x86-64, and how to link it.
+# The static library for C on x86-64, and how to link it and run what it is linked into.
 lib:
-	@rt staticlib gateway
-	@echo 'to link: cc -Iinclude PROGRAM.c target/staticlib/libgateway.a'
+	@bash -c '. scripts/testing.sh && proving lib.log staticlib gateway' lib
+	@echo 'to link: scripts/x86 cc -Iinclude PROGRAM.c target/staticlib/libgateway.a -o PROGRAM'
+	@echo 'to run:  scripts/x86 ./PROGRAM'
+	@[ "$$(uname -m)" != x86_64 ] || echo 'here cc and ./PROGRAM alone do as well'
 
 # The machine stack of the calls, over the stored cases, and the size of their code.
 memory:

@@ -76,6 +76,20 @@ make_library() {
     quietly rt staticlib gateway
 }
 
+# proving LOG WORD...: rt with these words. What it says itself, a line for each crate as it is done, is shown; all that it prints goes
+# to the file target/log/LOG, which is named where rt fails.
+proving() {
+    local log=target/log/$1 status
+    shift
+    command -v rt > /dev/null || stop "rt, the command of the Rattle toolchain, is not on the path"
+    mkdir -p target/log
+    rt "$@" 2>&1 | tee "$log" | sed --unbuffered --quiet 's/^rt: //p'
+    status=${PIPESTATUS[0]}
+    [ "$status" -eq 0 ] && return
+    grep ': error' "$log" | head -n 5 | cut -c 1-300
+    stop "rt $* ended with status $status; all that it said is in $log"
+}
+
 # link_c SOURCE PROGRAM [FLAG...]: builds a C program with the library. have_c and make_library come first.
 link_c() {
     local source=$1 program=$2
