@@ -1,5 +1,5 @@
-//! The examples: both engines of this package leave what each example says, and do not depend on
-//! the order of the goal where the example says so.
+//! The examples: both engines of this package leave what each example says, and depend on the
+//! order of the goal only where the example says so.
 
 use nadhirukh_host::cases::random::Random;
 use nadhirukh_host::ending::Ending;
@@ -8,6 +8,8 @@ use nadhirukh_host::format::ANSWER_LEN;
 use nadhirukh_host::reference::state::Fact;
 use nadhirukh_host::{plain, reference};
 
+/// The folder of the examples whose result depends on the order of the goal.
+const BY_GOAL: &str = "examples/goal_order";
 /// The step limit of the program *run*.
 const LIMIT: u32 = 1_000_000;
 /// How many random goals each example is run on.
@@ -23,6 +25,22 @@ fn ending(example: &Example, goal: &[Fact]) -> Ending {
     assert_eq!(plain_outcome, outcome);
     assert_eq!(plain_answer, answer);
     Ending::of_run(&outcome, &answer)
+}
+
+/// A goal and its ending, as the text of an example has them.
+fn tell(example: &Example, goal: &[Fact], ending: &Ending) -> String {
+    let goal = example.tell_all(goal);
+    match ending.number {
+        0 => format!("goal {} leaves {}.", goal, example.tell_all(&ending.facts)),
+        number => format!("goal {} ends {}.", goal, number),
+    }
+}
+
+/// A goal's facts, whatever their order.
+fn facts(goal: &[Fact]) -> Vec<Fact> {
+    let mut facts = goal.to_vec();
+    facts.sort_by_key(|fact| (fact.symbol, fact.arguments));
+    facts
 }
 
 /// Runs a test on each example of a folder, under its name.
@@ -46,13 +64,31 @@ fn there_are_many_and_each_has_goals_of_both_sorts() {
 fn stored_goals_end_as_the_examples_say() {
     let test = |name: &str, example: &Example| {
         for stored in &example.goals {
-            let goal = example.tell_all(&stored.goal);
             let found = ending(example, &stored.goal);
-            assert_eq!(found, stored.ending, "{}: goal {}", name, goal);
+            let told = tell(example, &stored.goal, &found);
+            assert!(found == stored.ending, "{} ends otherwise:\n{}", name, told);
         }
     };
     each(ANY_ORDER, test);
     each(BY_ORDER, test);
+    each(BY_GOAL, test);
+}
+
+#[test]
+fn the_same_facts_in_another_order_end_unlike() {
+    let examples = in_folder(BY_GOAL).expect("the examples can be read");
+    assert!(!examples.is_empty());
+    each(BY_GOAL, |name, example| {
+        assert!(example.goals.len() > 1, "{}", name);
+        for (at, stored) in example.goals.iter().enumerate() {
+            let told = tell(example, &stored.goal, &stored.ending);
+            for other in &example.goals[..at] {
+                let alike = facts(&stored.goal) == facts(&other.goal);
+                assert!(alike, "{}, other facts:\n{}", name, told);
+                assert!(stored.ending != other.ending, "{}:\n{}", name, told);
+            }
+        }
+    });
 }
 
 #[test]
@@ -63,8 +99,16 @@ fn random_goals_end_alike_in_every_order() {
             let mut shuffled = goal.clone();
             draw::shuffle(&mut shuffled, &mut Random::new(!seed));
             let found = ending(example, &goal);
-            let told = example.tell_all(&goal);
-            assert_eq!(found, ending(example, &shuffled), "{}: {}", name, told);
+            let other = ending(example, &shuffled);
+            let told = tell(example, &goal, &found);
+            let retold = tell(example, &shuffled, &other);
+            assert!(
+                found == other,
+                "{} depends on order:\n{}\n{}",
+                name,
+                told,
+                retold
+            );
             // Running out of steps or room is no matter of the rules.
             assert!([0, 1, 3, 4].contains(&found.number), "{}: {}", name, told);
         }
