@@ -19,6 +19,7 @@ use std::path::Path;
 use crate::build;
 use crate::ending::Ending;
 use crate::reference::state::Fact;
+use crate::tools::{named, read_text};
 use draw::Draw;
 
 /// A symbol's name and arity.
@@ -47,17 +48,26 @@ pub struct Example {
     pub draws: Vec<Draw>,
 }
 
+/// A place in a text.
+#[derive(Clone, Copy, Debug, PartialEq, Eq)]
+pub struct Place {
+    /// From 1.
+    pub line: usize,
+    /// From 1, in characters.
+    pub column: usize,
+}
+
 /// Why a text is no example, and where.
 #[derive(Clone, Debug, PartialEq, Eq)]
 pub struct Error {
-    /// From 1.
-    pub line: usize,
+    pub place: Place,
     pub message: String,
 }
 
 impl fmt::Display for Error {
     fn fmt(&self, f: &mut fmt::Formatter) -> fmt::Result {
-        write!(f, "line {}: {}", self.line, self.message)
+        let Place { line, column } = self.place;
+        write!(f, "line {}, column {}: {}", line, column, self.message)
     }
 }
 
@@ -117,7 +127,7 @@ pub fn in_folder(folder: &str) -> io::Result<Vec<(String, Example)>> {
         .join("..")
         .join(folder);
     let mut examples = Vec::new();
-    for entry in fs::read_dir(folder)? {
+    for entry in fs::read_dir(&folder).map_err(|error| named(&folder, error))? {
         let path = entry?.path();
         if path.extension().map_or(false, |ending| ending == "chr") {
             let name = path.file_stem().unwrap_or_default().to_string_lossy();
@@ -130,9 +140,6 @@ pub fn in_folder(folder: &str) -> io::Result<Vec<(String, Example)>> {
 
 /// The example in a file; an error names the file.
 pub fn from_file(path: &Path) -> io::Result<Example> {
-    let named = |error: Error| {
-        let message = format!("{}: {}", path.display(), error);
-        io::Error::new(io::ErrorKind::InvalidData, message)
-    };
-    Example::read(&fs::read_to_string(path)?).map_err(named)
+    let wrong = |error: Error| io::Error::new(io::ErrorKind::InvalidData, error);
+    Example::read(&read_text(path)?).map_err(|error| named(path, wrong(error)))
 }

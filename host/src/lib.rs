@@ -8,6 +8,8 @@
 //! - [`plain`]: a plain fast engine with the proved engine's scan, the yardstick for its speed.
 //! - [`build`]: tables and goals in readable form, for tests and examples.
 //! - [`example`]: programs in readable text, with goals and what they must leave.
+//! - [`words`]: the numbers of a result in words, from the C header.
+//! - [`tools`]: what the programs have in common: files by name, and how a program ends.
 //! - [`ending`]: how a run ends, with what does not depend on the order of partners.
 //! - [`swi`]: a table and goals as a program for SWI-Prolog's CHR library.
 //! - [`bench`]: what is measured, and how two engines are timed against each other.
@@ -30,4 +32,6 @@ pub mod plain;
 pub mod reference;
 pub mod stored;
 pub mod swi;
+pub mod tools;
 pub mod verdict;
+pub mod words;

@@ -1,5 +1,7 @@
 //! The text of examples: what it stands for, and what is refused where.
 
+use std::fs;
+
 use nadhirukh_host::build::{
     alone, constant, of, table, table_a, variable, Rule, AT_LEAST, AT_MOST, DIFFERENCE, EQUAL,
     GREATER, LESS, PRODUCT, QUOTIENT, REMAINDER, SUM, UNEQUAL,
@@ -7,21 +9,24 @@ use nadhirukh_host::build::{
 use nadhirukh_host::ending::Ending;
 use nadhirukh_host::example::Example;
 
+/// Texts that are wrong, `NAME.chr`, and what the reader says of each, `NAME.said`.
+const WRONG: &str = concat!(env!("CARGO_MANIFEST_DIR"), "/tests/wrong");
+
 fn read(text: &str) -> Example {
     Example::read(text).expect("the text is good")
 }
 
-/// Asserts where and why a text is refused.
+/// Asserts in which line and why a text is refused.
 fn refused(text: &str, line: usize, message: &str) {
     let error = Example::read(text).expect_err("the text is bad");
-    assert_eq!((error.line, error.message.as_str()), (line, message));
+    assert_eq!((error.place.line, error.message.as_str()), (line, message));
 }
 
 #[test]
 fn the_text_of_table_a_gives_its_bytes() {
     let text = "mu/2. lower @ mu(S, A) \\ mu(S, B) <=> A =< B | true.";
     assert_eq!(read(text).table, table_a());
-    let spread = "mu / 2 . # two places\n mu(S,A)\\mu(S,B)<=>A=<B|true .";
+    let spread = "mu / 2\n. # two places\n mu(S,A)\\mu(S,B)<=>A=<B|\ntrue\n.";
     assert_eq!(read(spread).table, table_a());
 }
 
@@ -104,8 +109,19 @@ fn goals_and_random_goals() {
 }
 
 #[test]
+fn a_range_is_no_fraction() {
+    let example = read("p/1. random 0..20 p(-3..8),1..2 p(0).");
+    let ranges = example
+        .draws
+        .iter()
+        .map(|draw| (draw.count.first, draw.count.last));
+    assert_eq!(ranges.collect::<Vec<_>>(), [(0, 20), (1, 2)]);
+}
+
+#[test]
 fn words_that_do_not_fit_are_named_with_their_line() {
-    refused("p/1.\n p(X) <=> true", 2, "expected '.', not the end");
+    refused("p/1.\n p(X) <=> true", 2, "expected '.' behind true");
+    refused("p/1. p(X) <=> true q", 1, "expected '.', not q");
     refused(
         "p/1.\n\n p(X) <=> X | true.",
         3,
@@ -116,43 +132,67 @@ fn words_that_do_not_fit_are_named_with_their_line() {
         1,
         "expected '<=>', not '==>'",
     );
-    refused("p/1. P <=> true.", 1, "expected a name, not P");
-    refused("p/1. p(x) <=> true.", 1, "expected a number, not x");
-    refused("p/1. p(X + 1) <=> true.", 1, "expected ')', not '+'");
-    refused("p/1. goal p(X).", 1, "expected a number, not X");
-    refused("p/1.\n& <=> true.", 2, "no word begins with '& <=> true.'");
+    refused("p/1.\n& <=> true.", 2, "no word begins with '&'");
     refused("p/1. goal p(1).", 1, "expected 'leaves' or 'ends', not '.'");
 }
 
 #[test]
-fn names_and_numbers_out_of_their_range_are_refused() {
-    refused("p/1.\n q(X) <=> true.", 2, "q is not declared");
-    refused("p/1. p <=> true.", 1, "p has 1 places, not 0");
-    refused("p/1. p/2.", 1, "p is taken already");
-    refused("goal/1.", 1, "goal is taken already");
-    refused("p/5.", 1, "5 is no arity");
-    refused("p/1. p(X) <=> p(Y).", 1, "Y stands in no head");
-    refused(
-        "p/1. goal p(2147483648).",
-        1,
-        "2147483648 does not fit 32 bits",
-    );
-    refused("p/1. random 3 p(2..1).", 1, "2..1 is empty");
-    refused("p/1. goal true ends 0.", 1, "no run ends 0 so");
+fn a_place_is_a_line_and_a_column_in_characters() {
+    let error = Example::read("p/1. # é\n  p(X) <=> X > Y | true.").expect_err("Y is bad");
+    let told = "line 2, column 16: Y stands in no head";
+    assert_eq!(error.to_string(), told);
+    let error = Example::read("\u{a0}é/1.").expect_err("é is bad");
+    assert_eq!((error.place.line, error.place.column), (1, 2));
 }
 
 #[test]
-fn what_the_engines_refuse_is_refused_with_their_number() {
-    refused("p/0.\np, p,\np, p, p <=> true.", 2, "refused with 19");
+fn what_the_engines_refuse_is_told_at_its_statement() {
     let symbols: String = (0..33).map(|n| format!("p{}/0.\n", n)).collect();
-    refused(&symbols, 33, "refused with 19");
-    let rules = "p/0.\n".to_string() + &"p <=> true.\n".repeat(65);
-    refused(&rules, 66, "refused with 19");
-    let goal = "p/0. goal p".to_string() + &", p".repeat(64) + " leaves true.";
-    refused(&goal, 1, "refused with 34");
+    let used = symbols.clone() + "p0 <=> p32.\n";
+    for text in [symbols, used] {
+        refused(&text, 33, "one symbol too many, a table has at most 32");
+    }
+    let goal = "p/0.\ngoal p".to_string() + &", p".repeat(64) + "\nleaves true.";
+    refused(&goal, 2, "goal of more than 64 facts");
     let heads = "p/4. p(A,B,C,D), p(E,F,G,H), p(I,J,K,L), p(M,N,O,P) <=> true.";
-    assert_eq!(
-        Example::read(heads).map(|example| example.goals.len()),
-        Ok(0)
-    );
+    assert_eq!(read(heads).goals.len(), 0);
+}
+
+/// The names of the stored texts that are wrong, or of what the reader says of them.
+fn stored(ending: &str) -> Vec<String> {
+    let folder = fs::read_dir(WRONG).expect("the folder can be read");
+    let paths = folder.map(|entry| entry.expect("the folder can be read").path());
+    let mut names: Vec<String> = paths
+        .filter(|path| path.extension().map_or(false, |found| found == ending))
+        .map(|path| {
+            path.file_stem()
+                .unwrap_or_default()
+                .to_string_lossy()
+                .into()
+        })
+        .collect();
+    names.sort();
+    names
+}
+
+#[test]
+fn each_stored_text_is_refused_in_the_stored_words() {
+    let names = stored("chr");
+    assert!(!names.is_empty());
+    assert_eq!(names, stored("said"));
+    let file = |name: &str, ending: &str| {
+        let path = format!("{}/{}.{}", WRONG, name, ending);
+        fs::read_to_string(path).expect("the file can be read")
+    };
+    for name in names {
+        let text = file(&name, "chr");
+        assert!(
+            text.starts_with("# "),
+            "{} does not say what was done",
+            name
+        );
+        let said = Example::read(&text).map(|_| "nothing".to_string());
+        let said = said.unwrap_or_else(|error| error.to_string());
+        assert_eq!(said + "\n", file(&name, "said"), "{}", name);
+    }
 }

@@ -1,8 +1,14 @@
 //! A place in an example's words, and what can be taken there.
 
 use super::token::{Placed, Token};
-use super::{Declared, Error};
+use super::{Declared, Error, Place};
 use crate::names::Symbol;
+
+/// What a slot is read from: a number, or the name of a variable.
+pub enum Value {
+    Number(i32),
+    Variable(String),
+}
 
 /// The words, and how many are taken.
 pub struct Cursor {
@@ -25,40 +31,49 @@ impl Cursor {
         matches!(self.peek(), Some(Token::Name(_)))
     }
 
+    /// Whether the next word is this mark.
+    pub fn peek_is(&self, mark: &str) -> bool {
+        matches!(self.peek(), Some(Token::Mark(next)) if *next == mark)
+    }
+
     /// Whether the word behind the next one is this mark.
     pub fn second_is(&self, mark: &str) -> bool {
         let second = self.words.get(self.taken + 1).map(|word| &word.token);
         matches!(second, Some(Token::Mark(next)) if *next == mark)
     }
 
-    /// The line of the next word, or of the last one.
-    pub fn line(&self) -> usize {
+    /// The place of the next word, or of the last one.
+    pub fn place(&self) -> Place {
         let word = self.words.get(self.taken).or_else(|| self.words.last());
-        word.map_or(1, |word| word.line)
+        word.map_or(Place { line: 1, column: 1 }, |word| word.place)
     }
 
     /// An error at the next word.
-    pub fn error(&self, message: String) -> Error {
+    pub fn error(&self, message: impl Into<String>) -> Error {
         Error {
-            line: self.line(),
-            message,
+            place: self.place(),
+            message: message.into(),
         }
     }
 
     /// The error that something else was expected here.
     pub fn expected(&self, what: &str) -> Error {
-        let found = match self.peek() {
-            None => "the end".to_string(),
-            Some(Token::Name(word) | Token::Variable(word)) => word.clone(),
-            Some(Token::Number(number)) => number.to_string(),
-            Some(Token::Mark(mark)) => format!("'{}'", mark),
-        };
+        let found = self.peek().map_or("the end".to_string(), told);
         self.error(format!("expected {}, not {}", what, found))
+    }
+
+    /// The same, with what is good to know about it.
+    fn expected_since(&self, what: &str, since: &str) -> Error {
+        let Error { place, message } = self.expected(what);
+        Error {
+            place,
+            message: format!("{}: {}", message, since),
+        }
     }
 
     /// Takes a mark if it is the next word.
     pub fn take(&mut self, mark: &str) -> bool {
-        let here = matches!(self.peek(), Some(Token::Mark(next)) if *next == mark);
+        let here = self.peek_is(mark);
         self.taken += usize::from(here);
         here
     }
@@ -79,6 +94,22 @@ impl Cursor {
         }
     }
 
+    /// Takes the dot behind a statement. Where a line ends without it, the error is there.
+    pub fn end_of_statement(&mut self) -> Result<(), Error> {
+        if self.take(".") {
+            return Ok(());
+        }
+        let next = self.words.get(self.taken).map(|word| word.place.line);
+        let last = self.words[..self.taken].last();
+        Err(match last.filter(|last| next != Some(last.place.line)) {
+            None => self.expected("'.'"),
+            Some(last) => Error {
+                place: last.place,
+                message: format!("expected '.' behind {}", told(&last.token)),
+            },
+        })
+    }
+
     /// Takes a name that must be here.
     pub fn name(&mut self) -> Result<String, Error> {
         match self.peek() {
@@ -87,19 +118,37 @@ impl Cursor {
                 self.taken += 1;
                 Ok(name)
             }
+            Some(Token::Variable(_)) => {
+                Err(self.expected_since("a name", "names begin with a small letter"))
+            }
             _ => Err(self.expected("a name")),
         }
     }
 
-    /// Takes a variable if it is the next word.
-    pub fn take_variable(&mut self) -> Option<String> {
+    /// Takes a number or a variable.
+    pub fn value(&mut self) -> Result<Value, Error> {
+        let what = "a number or a variable";
         match self.peek() {
             Some(Token::Variable(name)) => {
                 let name = name.clone();
                 self.taken += 1;
-                Some(name)
+                Ok(Value::Variable(name))
             }
-            _ => None,
+            Some(Token::Number(_) | Token::Mark("-")) => self.constant().map(Value::Number),
+            Some(Token::Name(_)) => {
+                Err(self.expected_since(what, "variables begin with a capital letter"))
+            }
+            _ => Err(self.expected(what)),
+        }
+    }
+
+    /// Takes a number of a fact that has no variables.
+    pub fn ground(&mut self) -> Result<i32, Error> {
+        match self.peek() {
+            Some(Token::Variable(_)) => {
+                Err(self.expected_since("a number", "goals have no variables"))
+            }
+            _ => self.constant(),
         }
     }
 
@@ -133,24 +182,34 @@ impl Cursor {
     pub fn fact<T>(
         &mut self,
         symbols: &[Declared],
-        place: impl FnMut(&mut Cursor) -> Result<T, Error>,
+        one: impl FnMut(&mut Cursor) -> Result<T, Error>,
     ) -> Result<(Symbol, Vec<T>), Error> {
-        let line = self.line();
-        let wrong = |message| Error { line, message };
+        let place = self.place();
+        let wrong = |message| Error { place, message };
         let name = self.name()?;
         let at = symbols.iter().position(|declared| declared.name == name);
         let at = at.ok_or_else(|| wrong(format!("{} is not declared", name)))?;
         let mut places = Vec::new();
         if self.take("(") {
-            places = self.list(place)?;
+            places = self.list(one)?;
             self.expect(")")?;
         }
         let arity = symbols[at].arity;
         if places.len() == arity {
             Ok((Symbol(at as u8), places))
         } else {
-            let message = format!("{} has {} places, not {}", name, arity, places.len());
+            let noun = if arity == 1 { "place" } else { "places" };
+            let message = format!("{} has {} {}, not {}", name, arity, noun, places.len());
             Err(wrong(message))
         }
+    }
+}
+
+/// A word as an error names it.
+fn told(token: &Token) -> String {
+    match token {
+        Token::Name(word) | Token::Variable(word) => word.clone(),
+        Token::Number(number) => number.to_string(),
+        Token::Mark(mark) => format!("'{}'", mark),
     }
 }

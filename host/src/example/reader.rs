@@ -8,17 +8,17 @@
 //! random 0..20 mu(1..4, 100..900), 1 mu(5, 0).            what random goals are made of
 //! ```
 
-use std::slice;
-
 use super::cursor::Cursor;
 use super::draw::{Draw, Range};
 use super::token::tokens;
-use super::{goal_bytes, rule, Declared, Error, Example, Stored};
+use super::{goal_bytes, rule, Declared, Error, Example, Place, Stored};
 use crate::build::{table, Rule};
 use crate::ending::Ending;
 use crate::format::PLACES;
 use crate::reference::state::Fact;
+use crate::reference::table::Table;
 use crate::reference::{check, goal};
+use crate::words;
 
 /// Names that no symbol can have.
 const TAKEN: [&str; 6] = ["goal", "leaves", "ends", "random", "true", "fail"];
@@ -31,14 +31,13 @@ pub fn read(text: &str) -> Result<Example, Error> {
         example: Example::default(),
     };
     while reader.cursor.peek().is_some() {
+        let place = reader.cursor.place();
         reader.statement()?;
-        reader.cursor.expect(".")?;
+        reader.checked(place)?;
+        reader.cursor.end_of_statement()?;
     }
-    reader.example.table = reader.table(&reader.rules);
-    match check::read(&reader.example.table) {
-        Ok(_) => Ok(reader.example),
-        Err(refusal) => Err(reader.refused(refusal.number)),
-    }
+    reader.example.table = reader.table();
+    Ok(reader.example)
 }
 
 /// What is read so far.
@@ -63,53 +62,61 @@ impl Reader {
 
     /// `name/arity`.
     fn declaration(&mut self) -> Result<(), Error> {
+        let place = self.cursor.place();
+        let wrong = |message| Err(Error { place, message });
         let name = self.cursor.name()?;
         let symbols = &mut self.example.symbols;
-        let declared = symbols.iter().any(|symbol| symbol.name == name);
-        if declared || TAKEN.contains(&name.as_str()) {
-            return Err(self.cursor.error(format!("{} is taken already", name)));
+        if TAKEN.contains(&name.as_str()) {
+            return wrong(format!("{} has a meaning of its own", name));
+        }
+        if symbols.iter().any(|symbol| symbol.name == name) {
+            return wrong(format!("{} is declared already", name));
         }
         self.cursor.expect("/")?;
-        match self.cursor.constant()? {
-            arity @ 0..=4 => symbols.push(Declared {
-                name,
-                arity: arity as usize,
-            }),
-            arity => return Err(self.cursor.error(format!("{} is no arity", arity))),
+        let arity = self.cursor.constant()?;
+        match usize::try_from(arity) {
+            Ok(arity @ 0..=PLACES) => symbols.push(Declared { name, arity }),
+            _ => {
+                return wrong(format!(
+                    "a symbol has 0 to {} places, not {}",
+                    PLACES, arity
+                ))
+            }
         }
         Ok(())
     }
 
-    /// A rule; alone with the symbols it makes a good table.
     fn rule(&mut self) -> Result<(), Error> {
-        let line = self.cursor.line();
         let rule = rule::rule(&mut self.cursor, &self.example.symbols)?;
-        if let Err(refusal) = check::read(&self.table(slice::from_ref(&rule))) {
-            let error = self.refused(refusal.number);
-            return Err(Error { line, ..error });
-        }
         self.rules.push(rule);
         Ok(())
     }
 
-    /// A table with the symbols declared so far.
-    fn table(&self, rules: &[Rule]) -> Vec<u8> {
+    /// The table of what is read so far.
+    fn table(&self) -> Vec<u8> {
         let symbols = self.example.symbols.iter();
         let arities: Vec<u8> = symbols.map(|symbol| symbol.arity as u8).collect();
-        table(&arities, rules)
+        table(&arities, &self.rules)
+    }
+
+    /// The same, if the engines take it; else the statement at this place is at fault.
+    fn checked(&self, place: Place) -> Result<Table, Error> {
+        let table = self.table();
+        check::read(&table).map_err(|refusal| Error {
+            place,
+            message: words::refused(&table, refusal),
+        })
     }
 
     /// `goal facts leaves facts`, or `goal facts ends number`.
     fn goal(&mut self) -> Result<(), Error> {
+        let place = self.cursor.place();
         let goal = self.facts()?;
-        self.test_goal(&goal)?;
+        self.test_goal(place, &goal)?;
         let ending = if self.cursor.take_name("leaves") {
             Ending::new(0, self.facts()?)
         } else if self.cursor.take_name("ends") {
-            match self.cursor.constant()? {
-                number @ 1..=7 => Ending::new(number as u32, Vec::new()),
-                number => return Err(self.cursor.error(format!("no run ends {} so", number))),
-            }
+            self.ends()?
         } else {
             return Err(self.cursor.expected("'leaves' or 'ends'"));
         };
@@ -118,10 +125,25 @@ impl Reader {
     }
 
     /// Whether the engines take a goal.
-    fn test_goal(&self, facts: &[Fact]) -> Result<(), Error> {
-        let table = check::read(&self.table(&self.rules)).map_err(|r| self.refused(r.number))?;
+    fn test_goal(&self, place: Place, facts: &[Fact]) -> Result<(), Error> {
+        let table = self.checked(place)?;
         let read = goal::read(&goal_bytes(facts), &table);
-        read.map(|_| ()).map_err(|r| self.refused(r.number))
+        read.map(|_| ()).map_err(|refusal| Error {
+            place,
+            message: words::refused(&self.table(), refusal),
+        })
+    }
+
+    /// The number of a run that is not done.
+    fn ends(&mut self) -> Result<Ending, Error> {
+        let place = self.cursor.place();
+        match self.cursor.constant()? {
+            number @ 1..=7 => Ok(Ending::new(number as u32, Vec::new())),
+            number => Err(Error {
+                place,
+                message: format!("behind 'ends' stands 1 to 7, not {}", number),
+            }),
+        }
     }
 
     /// Ground facts; `true` for none.
@@ -132,7 +154,7 @@ impl Reader {
         let symbols = &self.example.symbols;
         let facts = self
             .cursor
-            .list(|cursor| cursor.fact(symbols, Cursor::constant))?;
+            .list(|cursor| cursor.fact(symbols, Cursor::ground))?;
         let fact = |(symbol, used): (_, Vec<i32>)| {
             let mut arguments = [0; PLACES];
             arguments[..used.len()].copy_from_slice(&used);
@@ -156,15 +178,11 @@ impl Reader {
         self.example.draws.extend(draws);
         Ok(())
     }
-
-    /// The error that the engines refuse what stands here.
-    fn refused(&self, number: u32) -> Error {
-        self.cursor.error(format!("refused with {}", number))
-    }
 }
 
 /// A number, or `first..last`.
 fn range(cursor: &mut Cursor) -> Result<Range, Error> {
+    let place = cursor.place();
     let first = cursor.constant()?;
     let last = if cursor.take("..") {
         cursor.constant()?
@@ -174,6 +192,7 @@ fn range(cursor: &mut Cursor) -> Result<Range, Error> {
     if first <= last {
         Ok(Range { first, last })
     } else {
-        Err(cursor.error(format!("{}..{} is empty", first, last)))
+        let message = format!("{}..{} is empty", first, last);
+        Err(Error { place, message })
     }
 }

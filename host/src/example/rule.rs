@@ -1,6 +1,6 @@
 //! A rule: `kept \ removed <=> guards | body`, `removed <=> ..` or `kept ==> ..`.
 
-use super::cursor::Cursor;
+use super::cursor::{Cursor, Value};
 use super::{Declared, Error};
 use crate::build::{
     alone, constant, of, variable, Expression, Rule, Slot, AT_LEAST, AT_MOST, DIFFERENCE, EQUAL,
@@ -26,6 +26,10 @@ const COMPARATORS: [(&str, u8); 6] = [
     (">=", AT_LEAST),
 ];
 
+/// What to do where an expression goes on.
+const ONE_OPERATION: &str =
+    "an expression is one operation on two values: for more use a helper fact";
+
 /// Reads a rule; a name before it, with `@` behind, is for the reader alone.
 pub fn rule(cursor: &mut Cursor, symbols: &[Declared]) -> Result<Rule, Error> {
     if cursor.second_is("@") {
@@ -39,7 +43,11 @@ pub fn rule(cursor: &mut Cursor, symbols: &[Declared]) -> Result<Rule, Error> {
     };
     let rule = reader.heads()?;
     let rule = reader.guards(rule)?;
-    reader.body(rule)
+    let rule = reader.body(rule)?;
+    if cursor.peek_is("|") {
+        return Err(cursor.error("before '|' stand comparisons alone; without any leave it out"));
+    }
+    Ok(rule)
 }
 
 /// A rule that is being read, and the names of its variables in the order of their numbers.
@@ -61,8 +69,10 @@ impl RuleReader<'_> {
         if self.cursor.take("==>") {
             return Ok(with_heads(&first, &[]));
         }
-        self.cursor.expect("<=>")?;
-        Ok(with_heads(&[], &first))
+        if self.cursor.take("<=>") {
+            return Ok(with_heads(&[], &first));
+        }
+        Err(self.cursor.expected("an arrow, '<=>' or '==>'"))
     }
 
     fn head_list(&mut self) -> Result<Vec<(Symbol, Vec<Slot>)>, Error> {
@@ -73,6 +83,7 @@ impl RuleReader<'_> {
 
     /// The guards: all that stands before a `|`. A body begins with a name, a guard does not.
     fn guards(&mut self, mut rule: Rule) -> Result<Rule, Error> {
+        self.expect_more()?;
         if self.cursor.peek_is_name() {
             return Ok(rule);
         }
@@ -83,6 +94,7 @@ impl RuleReader<'_> {
             let comparator = comparator.ok_or_else(|| cursor.expected("a comparator"))?;
             Ok((left, comparator, expression(cursor, variables)?))
         })?;
+        self.expect_more()?;
         self.cursor.expect("|")?;
         for (left, comparator, right) in guards {
             rule = rule.guard(left, comparator, right);
@@ -92,6 +104,7 @@ impl RuleReader<'_> {
 
     /// The body: `true`, or facts and fails.
     fn body(&mut self, mut rule: Rule) -> Result<Rule, Error> {
+        self.expect_more()?;
         if self.cursor.take_name("true") {
             return Ok(rule);
         }
@@ -111,6 +124,15 @@ impl RuleReader<'_> {
         }
         Ok(rule)
     }
+
+    /// The error that a rule ends here, before its body.
+    fn expect_more(&self) -> Result<(), Error> {
+        if self.cursor.peek_is(".") {
+            let message = "a rule needs a body, behind '|' if it has guards: 'true' for none";
+            return Err(self.cursor.error(message));
+        }
+        Ok(())
+    }
 }
 
 /// A rule with these heads and nothing else.
@@ -127,39 +149,65 @@ fn with_heads(kept: &[(Symbol, Vec<Slot>)], removed: &[(Symbol, Vec<Slot>)]) -> 
 
 /// A slot of a head: a constant, or a variable, which gets the next number where it is new.
 fn head_slot(cursor: &mut Cursor, variables: &mut Vec<String>) -> Result<Slot, Error> {
-    let name = match cursor.take_variable() {
-        Some(name) => name,
-        None => return cursor.constant().map(constant),
+    let place = cursor.place();
+    let slot = match cursor.value()? {
+        Value::Number(value) => constant(value),
+        Value::Variable(name) => head_variable(name, variables).ok_or(Error {
+            place,
+            message: format!("a rule has at most {} variables", VARIABLES),
+        })?,
     };
+    if peek_is_operation(cursor) {
+        return Err(cursor.error("a head has no operations: compare in a guard"));
+    }
+    Ok(slot)
+}
+
+/// A variable of the heads by its name, or nothing if it is one too many.
+fn head_variable(name: String, variables: &mut Vec<String>) -> Option<Slot> {
     let known = variables.iter().position(|variable| *variable == name);
     if known.is_none() && variables.len() == VARIABLES {
-        return Err(cursor.error(format!("a rule has at most {} variables", VARIABLES)));
+        return None;
     }
     if known.is_none() {
         variables.push(name);
     }
-    Ok(variable(known.unwrap_or(variables.len() - 1) as u32))
+    Some(variable(known.unwrap_or(variables.len() - 1) as u32))
 }
 
 /// A slot of a guard or body: a constant, or a variable of the heads.
 fn bound_slot(cursor: &mut Cursor, variables: &[String]) -> Result<Slot, Error> {
-    let name = match cursor.take_variable() {
-        Some(name) => name,
-        None => return cursor.constant().map(constant),
-    };
-    match variables.iter().position(|variable| *variable == name) {
-        Some(number) => Ok(variable(number as u32)),
-        None => Err(cursor.error(format!("{} stands in no head", name))),
+    if cursor.peek_is("(") {
+        return Err(cursor.error(ONE_OPERATION));
     }
+    let place = cursor.place();
+    let name = match cursor.value()? {
+        Value::Number(value) => return Ok(constant(value)),
+        Value::Variable(name) => name,
+    };
+    let known = variables.iter().position(|variable| *variable == name);
+    known.map(|number| variable(number as u32)).ok_or(Error {
+        place,
+        message: format!("{} stands in no head", name),
+    })
 }
 
 /// A slot alone, or one operation on two.
 fn expression(cursor: &mut Cursor, variables: &[String]) -> Result<Expression, Error> {
     let first = bound_slot(cursor, variables)?;
-    match one_of(cursor, &OPERATIONS) {
-        Some(operation) => Ok(of(operation, first, bound_slot(cursor, variables)?)),
-        None => Ok(alone(first)),
+    let expression = match one_of(cursor, &OPERATIONS) {
+        Some(operation) => of(operation, first, bound_slot(cursor, variables)?),
+        None => alone(first),
+    };
+    if peek_is_operation(cursor) {
+        return Err(cursor.error(ONE_OPERATION));
     }
+    Ok(expression)
+}
+
+/// Whether the next word is an operation's mark.
+fn peek_is_operation(cursor: &Cursor) -> bool {
+    OPERATIONS.iter().any(|(mark, _)| cursor.peek_is(mark))
 }
 
 /// Takes one of these marks: its byte.
