@@ -10,7 +10,7 @@
 //! for weights every one that it can give.
 
 use std::env;
-use std::fs::{self, File};
+use std::fs::File;
 use std::io;
 use std::path::{Path, PathBuf};
 use std::process::{Command, ExitCode};
@@ -21,6 +21,7 @@ use std::time::{Duration, Instant};
 
 use nadhirukh_host::cases::{any_case, edges, finding, Call, Case};
 use nadhirukh_host::outcome::{ENDINGS, FINDINGS, REFUSALS};
+use nadhirukh_host::tools::{self, Trouble};
 use nadhirukh_host::{stored, verdict};
 
 /// Random cases in a batch.
@@ -67,19 +68,25 @@ struct Progress {
 }
 
 fn main() -> ExitCode {
-    let request = Request::read().expect("compare FOLDER CASES SEED PROGRAM [ARGUMENT...]");
+    tools::status("compare", compare_all())
+}
+
+fn compare_all() -> Result<ExitCode, Trouble> {
+    let usage = || tools::usage("compare FOLDER CASES SEED PROGRAM [ARGUMENT...]");
+    let request = Request::read().ok_or_else(usage)?;
     let progress = Mutex::new(Progress::new());
     let next = AtomicU64::new(0);
     let workers = thread::available_parallelism().map_or(1, usize::from);
     thread::scope(|scope| {
-        for worker in 0..workers {
-            let (request, next, progress) = (&request, &next, &progress);
-            scope.spawn(move || work(request, worker, next, progress));
-        }
-    });
-    let progress = progress.into_inner().expect("no worker gave up");
+        let (request, next, progress) = (&request, &next, &progress);
+        let start = |worker| scope.spawn(move || work(request, worker, next, progress));
+        let started: Vec<_> = (0..workers).map(start).collect();
+        let mut ended = started.into_iter().map(|worker| worker.join());
+        ended.try_for_each(|worker| worker.expect("no worker panics"))
+    })?;
+    let progress = progress.into_inner().expect("no worker panics");
     progress.tell(request.cases);
-    progress.tally.report(request.cases)
+    Ok(progress.tally.report(request.cases))
 }
 
 impl Request {
@@ -130,18 +137,24 @@ fn random_sample(seed: u64) -> Sample {
 }
 
 /// Takes batches until none is left.
-fn work(request: &Request, worker: usize, next: &AtomicU64, progress: &Mutex<Progress>) {
+fn work(
+    request: &Request,
+    worker: usize,
+    next: &AtomicU64,
+    progress: &Mutex<Progress>,
+) -> io::Result<()> {
     let file = request.folder.join(format!("cases-{}", worker));
     while let Some(batch) = request.batch(next.fetch_add(1, Ordering::Relaxed)) {
-        let lines = printed(&request.program, &file, &batch).expect("the program can be started");
+        let lines = printed(&request.program, &file, &batch)?;
         let tally = compare(&batch, &lines);
-        let mut progress = progress.lock().expect("no worker gave up");
+        let mut progress = progress.lock().expect("no worker panics");
         progress.tally.add(tally);
         if progress.told.elapsed() >= PROGRESS {
             progress.tell(request.cases);
             progress.told = Instant::now();
         }
     }
+    Ok(())
 }
 
 /// The lines that the program prints for a batch, and one more where its status is not 0.
@@ -151,12 +164,13 @@ fn printed(program: &[String], file: &Path, batch: &[Sample]) -> io::Result<Vec<
         bytes.extend(stored::case(&sample.case));
     }
     bytes.push(stored::END);
-    fs::write(file, bytes)?;
+    tools::write(file, bytes)?;
     let mut command = Command::new(&program[0]);
     let output = command
         .args(&program[1..])
         .stdin(File::open(file)?)
-        .output()?;
+        .output()
+        .map_err(|error| tools::named(&program[0], error))?;
     let text = String::from_utf8_lossy(&output.stdout);
     let mut lines: Vec<String> = text.lines().map(String::from).collect();
     if !output.status.success() {

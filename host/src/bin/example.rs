@@ -1,34 +1,44 @@
 //! `example FILE [N]`: the bytes of an example's table and of its Nth goal, from 1, as the
 //! programs *run* and `show` read them; without N of the table alone.
+//!
+//! The status is 0 if they are written, 1 if the file is no example or has no such goal, and 2 for
+//! arguments other than these.
 
 use std::env;
-use std::error::Error;
 use std::io::{self, Write};
 use std::path::Path;
 use std::process::ExitCode;
 
 use nadhirukh_host::example::{from_file, goal_bytes};
+use nadhirukh_host::tools::{self, Trouble};
+
+const USAGE: &str = "example FILE [N], with N the number of a goal, from 1";
 
 fn main() -> ExitCode {
-    match write() {
-        Ok(()) => ExitCode::SUCCESS,
-        Err(error) => {
-            eprintln!("example: {}", error);
-            ExitCode::FAILURE
-        }
-    }
+    tools::status("example", write())
 }
 
-fn write() -> Result<(), Box<dyn Error>> {
-    let mut arguments = env::args().skip(1);
-    let file = arguments.next().ok_or("example FILE [N]")?;
+fn write() -> Result<ExitCode, Trouble> {
+    let (file, number) = arguments()?;
     let example = from_file(Path::new(&file))?;
     let mut bytes = example.table;
-    if let Some(number) = arguments.next() {
-        let before = number.parse::<usize>()?.wrapping_sub(1);
-        let stored = example.goals.get(before).ok_or("there is no such goal")?;
-        bytes.extend(goal_bytes(&stored.goal));
+    if let Some(number) = number {
+        let goal = example.goals.get(number.wrapping_sub(1)).ok_or_else(|| {
+            let goals = example.goals.len();
+            tools::failed(format!("{}: no goal {}, there are {}", file, number, goals))
+        })?;
+        bytes.extend(goal_bytes(&goal.goal));
     }
     io::stdout().write_all(&bytes)?;
-    Ok(())
+    Ok(ExitCode::SUCCESS)
+}
+
+/// The file, and the goal's number if one is given.
+fn arguments() -> Result<(String, Option<usize>), Trouble> {
+    let mut words = env::args().skip(1);
+    match (words.next(), words.next(), words.next()) {
+        (Some(file), None, None) => Ok((file, None)),
+        (Some(file), Some(number), None) => Ok((file, Some(tools::number(USAGE, &number)?))),
+        _ => Err(tools::usage(USAGE)),
+    }
 }

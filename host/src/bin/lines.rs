@@ -2,14 +2,14 @@
 //! `NAME.out`, by the second engine.
 
 use std::env;
-use std::fs;
-use std::io;
 use std::path::Path;
+use std::process::ExitCode;
 
 use nadhirukh_host::build::{goal, table_a};
 use nadhirukh_host::cases::random::Random;
 use nadhirukh_host::cases::{self, Case};
 use nadhirukh_host::format::{table_len, ANSWER_LEN, LONGEST_TABLE, STORED_RECORD_LEN};
+use nadhirukh_host::tools::{self, Trouble};
 use nadhirukh_host::verdict;
 
 /// The step limit of *run*.
@@ -19,16 +19,21 @@ const LONGEST_INPUT: usize = LONGEST_TABLE + 64 * 18;
 /// How many random inputs there are beside the ones with a name.
 const RANDOM: u64 = 60;
 
-fn main() -> io::Result<()> {
-    let folder = env::args().nth(1).expect("lines FOLDER");
-    fs::create_dir_all(&folder)?;
+fn main() -> ExitCode {
+    tools::status("lines", write())
+}
+
+fn write() -> Result<ExitCode, Trouble> {
+    let folder = env::args().nth(1);
+    let folder = folder.ok_or_else(|| tools::usage("lines FOLDER"))?;
+    tools::make_folder(Path::new(&folder))?;
     let random = (0..RANDOM).map(|seed| (format!("random-{}", seed), random_input(seed)));
     for (name, input) in named().into_iter().chain(random) {
         let file = |ending: &str| Path::new(&folder).join(format!("{}.{}", name, ending));
-        fs::write(file("in"), &input)?;
-        fs::write(file("out"), lines(&input))?;
+        tools::write(&file("in"), &input)?;
+        tools::write(&file("out"), lines(&input))?;
     }
-    Ok(())
+    Ok(ExitCode::SUCCESS)
 }
 
 /// Inputs at the edges of what *run* itself decides.

@@ -6,7 +6,6 @@
 
 use std::env;
 use std::error::Error;
-use std::fs;
 use std::io::Write;
 use std::path::Path;
 use std::process::{Command, ExitCode, Stdio};
@@ -20,6 +19,7 @@ use nadhirukh_host::plain;
 use nadhirukh_host::reference::state::Fact;
 use nadhirukh_host::reference::{check, goal};
 use nadhirukh_host::swi::{self, Arithmetic};
+use nadhirukh_host::tools::{self, Trouble};
 
 /// How many random goals each example is run on, beside the stored ones.
 const RANDOM: u64 = 100;
@@ -39,14 +39,18 @@ struct Compared {
 }
 
 fn main() -> ExitCode {
+    tools::status("swi", compare_all())
+}
+
+fn compare_all() -> Result<ExitCode, Trouble> {
     let arguments: Vec<String> = env::args().skip(1).collect();
     let (folder, run) = match arguments.split_first() {
         Some((folder, run)) if !run.is_empty() => (Path::new(folder), run),
-        _ => panic!("swi FOLDER RUN.."),
+        _ => return Err(tools::usage("swi FOLDER RUN..")),
     };
     let mut verdicts = vec![try_random_tables(folder, run)];
     for (examples, alike) in [(ANY_ORDER, true), (BY_ORDER, false)] {
-        for (name, example) in in_folder(examples).expect("the examples can be read") {
+        for (name, example) in in_folder(examples)? {
             let goals = example.all_goals(RANDOM);
             let compared = compare(&example, goals, &folder.join(&name), run);
             verdicts.push(report(&name, &example, alike, compared));
@@ -55,7 +59,7 @@ fn main() -> ExitCode {
     let passed = verdicts.iter().filter(|good| **good).count();
     let failed = verdicts.len() - passed;
     println!("{} passed, {} failed", passed, failed);
-    ExitCode::from(u8::from(failed > 0))
+    Ok(ExitCode::from(u8::from(failed > 0)))
 }
 
 /// Random tables of one-headed rules; only goals that a run ends by the rules, and not for want
@@ -171,7 +175,7 @@ fn compare(
 ) -> Tried<Vec<Compared>> {
     let file = &file.with_extension("pl");
     let table = check::read(&example.table).expect("an example's table is good");
-    fs::write(file, swi::program(&table, &goals, Arithmetic::Exact))?;
+    tools::write(file, swi::program(&table, &goals, Arithmetic::Exact))?;
     let theirs = swi_endings(file)?;
     if theirs.len() != goals.len() {
         return Err("SWI-Prolog did not run all goals".into());
@@ -190,7 +194,8 @@ fn swi_endings(file: &Path) -> Tried<Vec<Ending>> {
         .args(["-q", "-g", "main", "-t", "halt"])
         .arg(file)
         .stdin(Stdio::null())
-        .output()?;
+        .output()
+        .map_err(|error| tools::named("swipl", error))?;
     let printed = String::from_utf8(output.stdout)?;
     let endings = swi::endings(&printed).filter(|_| output.status.success());
     // Warnings are of no interest: random tables have rules that never fire.
@@ -204,7 +209,8 @@ fn proved_ending(example: &Example, goal: &[Fact], run: &[String]) -> Tried<Endi
         .args(&run[1..])
         .stdin(Stdio::piped())
         .stdout(Stdio::piped())
-        .spawn()?;
+        .spawn()
+        .map_err(|error| tools::named(&run[0], error))?;
     let mut input = child.stdin.take().ok_or("run takes no input")?;
     input.write_all(&[example.table.clone(), goal_bytes(goal)].concat())?;
     drop(input);

@@ -5,10 +5,8 @@
 //! microseconds, and how many times as long SWI takes.
 
 use std::env;
-use std::error::Error;
-use std::fs;
 use std::path::Path;
-use std::process::{Command, Stdio};
+use std::process::{Command, ExitCode, Stdio};
 use std::time::Instant;
 
 use nadhirukh_host::example::{goal_bytes, in_folder, Example, ANY_ORDER};
@@ -19,6 +17,7 @@ use nadhirukh_host::plain;
 use nadhirukh_host::reference::check;
 use nadhirukh_host::reference::state::Fact;
 use nadhirukh_host::swi::{self, Arithmetic};
+use nadhirukh_host::tools::{self, Trouble};
 
 /// The step limit of a run.
 const LIMIT: u32 = 1_000_000;
@@ -31,8 +30,13 @@ const BATCHES: u32 = 50;
 /// Runs of a batch.
 const RUNS: u32 = 20;
 
-fn main() -> Result<(), Box<dyn Error>> {
-    let folder = env::args().nth(1).ok_or("swi_time FOLDER")?;
+fn main() -> ExitCode {
+    tools::status("swi_time", time())
+}
+
+fn time() -> Result<ExitCode, Trouble> {
+    let folder = env::args().nth(1);
+    let folder = folder.ok_or_else(|| tools::usage("swi_time FOLDER"))?;
     println!("example      facts  steps firings    SWI us proved us  ratio");
     for (name, example) in in_folder(ANY_ORDER)? {
         let (goal, outcome) = longest(&example);
@@ -53,7 +57,7 @@ fn main() -> Result<(), Box<dyn Error>> {
             theirs / ours
         );
     }
-    Ok(())
+    Ok(ExitCode::SUCCESS)
 }
 
 /// The goal that is done after the most steps, and its result.
@@ -70,17 +74,18 @@ fn longest(example: &Example) -> (Vec<Fact>, Outcome) {
 }
 
 /// The time of a run on SWI-Prolog, in microseconds: its own arithmetic, without bounds.
-fn swi_time(example: &Example, goal: &[Fact], file: &Path) -> Result<f64, Box<dyn Error>> {
+fn swi_time(example: &Example, goal: &[Fact], file: &Path) -> Result<f64, Trouble> {
     let table = check::read(&example.table).expect("an example's table is good");
     let program = swi::program(&table, &[goal.to_vec()], Arithmetic::Native);
-    fs::write(file, program)?;
+    tools::write(file, program)?;
     let output = Command::new("swipl")
         .args(["-q", "-O", "-t", "halt", "-g"])
         .arg(format!("time({}, {})", BATCHES, RUNS))
         .arg(file)
         .stdin(Stdio::null())
         .stderr(Stdio::inherit())
-        .output()?;
+        .output()
+        .map_err(|error| tools::named("swipl", error))?;
     Ok(String::from_utf8(output.stdout)?.trim().parse()?)
 }
 

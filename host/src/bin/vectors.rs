@@ -5,15 +5,24 @@
 //! [`stored`] says how they look.
 
 use std::env;
-use std::fs;
-use std::io;
 use std::path::Path;
+use std::process::ExitCode;
 
 use nadhirukh_host::cases::random::Random;
 use nadhirukh_host::cases::{self, edges, finding, Case};
+use nadhirukh_host::tools::{self, Trouble};
 use nadhirukh_host::{stored, verdict};
 
-const GROUPS: [&str; 5] = ["check", "goal", "run", "weigh", "find"];
+/// A group's name, and what gives its cases.
+type Group = (&'static str, fn() -> Vec<Case>);
+
+const GROUPS: [Group; 5] = [
+    ("check", check_cases),
+    ("goal", || pick(3, GOAL, cases::refused_run_case)),
+    ("run", run_cases),
+    ("weigh", || pick(5, WEIGH, cases::weigh_case)),
+    ("find", find_cases),
+];
 
 /// The seed of all groups; a group begins its own row of cases with it.
 const SEED: u64 = 2004;
@@ -70,17 +79,22 @@ const FIND: Quota = &[
     (42, 50),
 ];
 
-fn main() -> io::Result<()> {
-    let mut arguments = env::args().skip(1);
-    let folder = arguments.next().expect("vectors FOLDER [GROUP...]");
-    let mut groups: Vec<String> = arguments.collect();
-    if groups.is_empty() {
-        groups = GROUPS.map(String::from).into();
-    }
+fn main() -> ExitCode {
+    tools::status("vectors", write())
+}
+
+fn write() -> Result<ExitCode, Trouble> {
+    let (folder, groups) = arguments().ok_or_else(|| {
+        let names = GROUPS.map(|(name, _)| name).join(", ");
+        tools::usage(&format!(
+            "vectors FOLDER [GROUP...], with GROUP of {}",
+            names
+        ))
+    })?;
     let mut input = Vec::new();
     let mut lines = String::new();
-    for group in &groups {
-        let cases = group_cases(group);
+    for (name, cases) in &groups {
+        let cases = cases();
         let before = input.len();
         for case in &cases {
             input.extend(stored::case(case));
@@ -88,24 +102,24 @@ fn main() -> io::Result<()> {
             lines.push('\n');
         }
         let bytes = input.len() - before;
-        println!("{}: {} cases, {} bytes", group, cases.len(), bytes);
+        println!("{}: {} cases, {} bytes", name, cases.len(), bytes);
     }
     input.push(stored::END);
-    fs::create_dir_all(&folder)?;
-    fs::write(Path::new(&folder).join("stdin"), input)?;
-    fs::write(Path::new(&folder).join("stdout"), lines)
+    let folder = Path::new(&folder);
+    tools::make_folder(folder)?;
+    tools::write(&folder.join("stdin"), input)?;
+    tools::write(&folder.join("stdout"), lines)?;
+    Ok(ExitCode::SUCCESS)
 }
 
-/// The cases of a group by its name.
-fn group_cases(name: &str) -> Vec<Case> {
-    match name {
-        "check" => check_cases(),
-        "goal" => pick(3, GOAL, cases::refused_run_case),
-        "run" => run_cases(),
-        "weigh" => pick(5, WEIGH, cases::weigh_case),
-        "find" => find_cases(),
-        _ => panic!("no group {}: {}", name, GROUPS.join(", ")),
-    }
+/// The folder and the groups, all of them if none is named; nothing if a name is no group's.
+fn arguments() -> Option<(String, Vec<Group>)> {
+    let mut arguments = env::args().skip(1);
+    let folder = arguments.next()?;
+    let group = |name: String| GROUPS.into_iter().find(|group| group.0 == name);
+    let groups: Vec<Group> = arguments.map(group).collect::<Option<_>>()?;
+    let all = groups.is_empty();
+    Some((folder, if all { GROUPS.into() } else { groups }))
 }
 
 /// Tables at every edge, the longest one whole and damaged, and random ones.
