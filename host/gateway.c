@@ -15,24 +15,12 @@
 
 #include "nadhirukh.h"
 
-/* Records by kind, slots by tag, operations and comparators: document 01, and docs/GUIDE.md. */
-enum { SYMBOL = 1, RULE = 2, KEPT_HEAD = 3, REMOVED_HEAD = 4, GUARD = 5, BODY_FACT = 6, END = 8, GOAL_FACT = 16, STORED_FACT = 17 };
-enum { CONSTANT = 1, VARIABLE = 2 };
-enum { ALONE = 0, QUOTIENT = 4 };
-enum { AT_MOST = 3, AT_LEAST = 5 };
-
 /* The symbols: mu(segment, friction), and reading(segment, speed difference, wheel speed, friction). */
-enum { MU = 0, READING = 1, MOST_SYMBOLS = 2 };
+enum { MU = 0, READING = 1 };
 
 /* The gateway's own numbers. */
 enum { WHEELS = 4, CYCLES = 20, SEGMENTS_A_CYCLE = 4, READINGS_A_SEGMENT = 4, FRONT_AHEAD = 2 };
 enum { SEGMENTS = CYCLES * SEGMENTS_A_CYCLE + FRONT_AHEAD };
-
-/* The length of a goal fact, and where its arguments stand; where symbol and arguments of a stored fact stand. */
-enum { GOAL_FACT_LEN = 18, GOAL_ARGUMENTS = 2, STORED_SYMBOL = 5, STORED_ARGUMENTS = 6 };
-
-/* The words of a result. */
-enum { NUMBER = 0, PLACE = 1, STEPS = 2, FIRINGS = 3, STORED = 5 };
 
 /* What each number means. */
 struct ending {
@@ -41,30 +29,30 @@ struct ending {
 };
 
 static const struct ending endings[] = {
-    {0, "done"},
-    {1, "failed: a rule says that the facts contradict each other"},
-    {2, "the step limit is used up"},
-    {3, "a guard has no value; the place is its rule"},
-    {4, "an argument of a body fact has no value; the place is its rule"},
-    {5, "the store is full: one fact more than 128"},
-    {6, "the stack is full: more than 256 entries; the place is the rule that fired"},
-    {7, "the history is full: more than 256 entries; the place is the rule that fired"},
-    {16, "the table has a record of unknown kind; the place is its offset"},
-    {17, "the table is cut short, or has no end record; the place is an offset"},
-    {18, "the table has a record out of order; the place is its offset"},
-    {19, "the table has one record too many of its sort; the place is its offset"},
-    {20, "the table has a record with a bad field; the place is its offset"},
-    {21, "the table has a rule with no head; the place is the offset of the record behind it"},
-    {22, "the table has a guard or body variable that is in no head; the place is the record's offset"},
-    {23, "the table has bytes after its end record; the place is the first of them"},
-    {32, "the goal's length is no multiple of 18"},
-    {33, "the goal has a bad fact; the place is the fact"},
-    {34, "the goal has more than 64 facts"},
-    {35, "the step limit is above 20,000,000"},
-    {36, "the answer buffer is shorter than 2,816 bytes"},
-    {40, "there are not as many weights as symbols"},
-    {41, "a weight is zero; the place is its symbol"},
-    {42, "a rule does not lose weight; the place is the rule"}
+    {NADHIRUKH_DONE, "done"},
+    {NADHIRUKH_FAILED, "failed: a rule says that the facts contradict each other"},
+    {NADHIRUKH_STEP_LIMIT, "the step limit is used up"},
+    {NADHIRUKH_GUARD_UNDEFINED, "a guard has no value; the place is its rule"},
+    {NADHIRUKH_BODY_UNDEFINED, "an argument of a body fact has no value; the place is its rule"},
+    {NADHIRUKH_STORE_FULL, "the store is full: one fact more than 128"},
+    {NADHIRUKH_STACK_FULL, "the stack is full: more than 256 entries; the place is the rule that fired"},
+    {NADHIRUKH_HISTORY_FULL, "the history is full: more than 256 entries; the place is the rule that fired"},
+    {NADHIRUKH_UNKNOWN_KIND, "the table has a record of unknown kind; the place is its offset"},
+    {NADHIRUKH_CUT_SHORT, "the table is cut short, or has no end record; the place is an offset"},
+    {NADHIRUKH_OUT_OF_ORDER, "the table has a record out of order; the place is its offset"},
+    {NADHIRUKH_ONE_TOO_MANY, "the table has one record too many of its sort; the place is its offset"},
+    {NADHIRUKH_BAD_FIELD, "the table has a record with a bad field; the place is its offset"},
+    {NADHIRUKH_NO_HEAD, "the table has a rule with no head; the place is the offset of the record behind it"},
+    {NADHIRUKH_VARIABLE_IN_NO_HEAD, "the table has a guard or body variable that is in no head; the place is the record's offset"},
+    {NADHIRUKH_BYTES_AFTER_END, "the table has bytes after its end record; the place is the first of them"},
+    {NADHIRUKH_GOAL_CUT, "the goal's length is no multiple of 18"},
+    {NADHIRUKH_BAD_GOAL_FACT, "the goal has a bad fact; the place is the fact"},
+    {NADHIRUKH_GOAL_TOO_LONG, "the goal has more than 64 facts"},
+    {NADHIRUKH_LIMIT_TOO_HIGH, "the step limit is above 20,000,000"},
+    {NADHIRUKH_ANSWER_TOO_SHORT, "the answer buffer is shorter than 2,816 bytes"},
+    {NADHIRUKH_WEIGHT_COUNT, "there are not as many weights as symbols"},
+    {NADHIRUKH_ZERO_WEIGHT, "a weight is zero; the place is its symbol"},
+    {NADHIRUKH_NO_WEIGHT_LOST, "a rule does not lose weight; the place is the rule"}
 };
 
 enum { ENDINGS = sizeof endings / sizeof endings[0] };
@@ -96,7 +84,7 @@ static void expect(int holds, const char *what)
 
 /* The bytes of a table or a goal, written from the start. The longest here is a goal of 64 facts. */
 struct bytes {
-    uint8_t at[64 * GOAL_FACT_LEN];
+    uint8_t at[NADHIRUKH_MAX_GOAL];
     size_t len;
 };
 
@@ -122,13 +110,13 @@ static void put_zeros(struct bytes *to, size_t count)
 /* Slots: a tag and a value. */
 static void variable(struct bytes *to, uint32_t number)
 {
-    put(to, VARIABLE);
+    put(to, NADHIRUKH_TAG_VARIABLE);
     put_word(to, number);
 }
 
 static void constant(struct bytes *to, int32_t value)
 {
-    put(to, CONSTANT);
+    put(to, NADHIRUKH_TAG_CONSTANT);
     put_word(to, (uint32_t)value);
 }
 
@@ -140,21 +128,21 @@ static void unused_slots(struct bytes *to, size_t count)
 /* Expressions: an operation and two slots. */
 static void alone(struct bytes *to, uint32_t number)
 {
-    put(to, ALONE);
+    put(to, NADHIRUKH_OPERATION_ALONE);
     variable(to, number);
     unused_slots(to, 1);
 }
 
 static void constant_alone(struct bytes *to, int32_t value)
 {
-    put(to, ALONE);
+    put(to, NADHIRUKH_OPERATION_ALONE);
     constant(to, value);
     unused_slots(to, 1);
 }
 
 static void quotient(struct bytes *to, uint32_t dividend, uint32_t divisor)
 {
-    put(to, QUOTIENT);
+    put(to, NADHIRUKH_OPERATION_QUOTIENT);
     variable(to, dividend);
     variable(to, divisor);
 }
@@ -167,7 +155,7 @@ static void unused_expressions(struct bytes *to, size_t count)
 /* Records: a kind, and what it begins with. Slots or expressions follow. */
 static void symbol(struct bytes *to, int arity)
 {
-    put(to, SYMBOL);
+    put(to, NADHIRUKH_KIND_SYMBOL);
     put(to, arity);
 }
 
@@ -190,10 +178,10 @@ static void mu_head(struct bytes *to, int kind, uint32_t segment, uint32_t frict
 static void lowest_rule(struct bytes *to)
 {
     enum { S, A, B };
-    put(to, RULE);
-    mu_head(to, KEPT_HEAD, S, A);
-    mu_head(to, REMOVED_HEAD, S, B);
-    record(to, GUARD, AT_MOST);
+    put(to, NADHIRUKH_KIND_RULE);
+    mu_head(to, NADHIRUKH_KIND_KEPT_HEAD, S, A);
+    mu_head(to, NADHIRUKH_KIND_REMOVED_HEAD, S, B);
+    record(to, NADHIRUKH_KIND_GUARD, NADHIRUKH_COMPARATOR_AT_MOST);
     alone(to, A);
     alone(to, B);
 }
@@ -201,7 +189,7 @@ static void lowest_rule(struct bytes *to)
 /* The head reading(S,D,V,F), removed. */
 static void reading_head(struct bytes *to, uint32_t s, uint32_t d, uint32_t v, uint32_t f)
 {
-    record(to, REMOVED_HEAD, READING);
+    record(to, NADHIRUKH_KIND_REMOVED_HEAD, READING);
     variable(to, s);
     variable(to, d);
     variable(to, v);
@@ -215,12 +203,12 @@ static void reading_head(struct bytes *to, uint32_t s, uint32_t d, uint32_t v, u
 static void slip_rule(struct bytes *to)
 {
     enum { S, D, V, F };
-    put(to, RULE);
+    put(to, NADHIRUKH_KIND_RULE);
     reading_head(to, S, D, V, F);
-    record(to, GUARD, AT_LEAST);
+    record(to, NADHIRUKH_KIND_GUARD, NADHIRUKH_COMPARATOR_AT_LEAST);
     quotient(to, D, V);
     constant_alone(to, 20);
-    record(to, BODY_FACT, MU);
+    record(to, NADHIRUKH_KIND_BODY_FACT, MU);
     alone(to, S);
     alone(to, F);
     unused_expressions(to, 2);
@@ -230,62 +218,48 @@ static void slip_rule(struct bytes *to)
 static void no_slip_rule(struct bytes *to)
 {
     enum { S, D, V, F };
-    put(to, RULE);
+    put(to, NADHIRUKH_KIND_RULE);
     reading_head(to, S, D, V, F);
 }
 
-/* A table, and a weight for each of its symbols under which every rule loses weight. */
+/* A table, and a weight for each of its symbols under which every rule loses weight: found once, before the first goal. */
 struct rules {
     struct bytes table;
-    uint8_t weights[MOST_SYMBOLS];
+    uint8_t weights[NADHIRUKH_MAX_SYMBOLS];
     size_t symbols;
 };
 
 /* Table A of document 01. */
-static void lowest_table(struct rules *to)
+static void lowest_table(struct bytes *to)
 {
-    memset(to, 0, sizeof *to);
-    symbol(&to->table, 2);
-    lowest_rule(&to->table);
-    put(&to->table, END);
-    to->weights[MU] = 1;
-    to->symbols = 1;
+    to->len = 0;
+    symbol(to, 2);
+    lowest_rule(to);
+    put(to, NADHIRUKH_KIND_END);
 }
 
 /* The same with readings that tell how fast the wheel turns. Rule 1 divides by it. */
-static void slip_table(struct rules *to)
+static void slip_table(struct bytes *to)
 {
-    memset(to, 0, sizeof *to);
-    symbol(&to->table, 2);
-    symbol(&to->table, 4);
-    lowest_rule(&to->table);
-    slip_rule(&to->table);
-    no_slip_rule(&to->table);
-    put(&to->table, END);
-    to->weights[MU] = 1;
-    to->weights[READING] = 2;
-    to->symbols = 2;
+    to->len = 0;
+    symbol(to, 2);
+    symbol(to, 4);
+    lowest_rule(to);
+    slip_rule(to);
+    no_slip_rule(to);
+    put(to, NADHIRUKH_KIND_END);
 }
 
-static void mu_fact(struct bytes *goal, uint32_t segment, uint32_t friction)
+/* A fact more, with the arguments that its symbol uses, and 0 for the others. */
+static void goal_fact(struct bytes *goal, int symbol, int32_t a, int32_t b, int32_t c, int32_t d)
 {
-    record(goal, GOAL_FACT, MU);
-    put_word(goal, segment);
-    put_word(goal, friction);
-    put_zeros(goal, 8);
-}
-
-static void reading_fact(struct bytes *goal, uint32_t segment, uint32_t difference, uint32_t speed, uint32_t friction)
-{
-    record(goal, GOAL_FACT, READING);
-    put_word(goal, segment);
-    put_word(goal, difference);
-    put_word(goal, speed);
-    put_word(goal, friction);
+    expect(goal->len + NADHIRUKH_GOAL_FACT_LEN <= sizeof goal->at, "a goal of more facts than there is room for");
+    nadhirukh_put_goal_fact(goal->at + goal->len, (uint8_t)symbol, a, b, c, d);
+    goal->len += NADHIRUKH_GOAL_FACT_LEN;
 }
 
 /* The road: the least friction that a segment shows. */
-static uint32_t road(uint32_t segment)
+static int32_t road(int32_t segment)
 {
     enum { DRY = 800, WET = 450, ICY = 120 };
     if (segment < 32)
@@ -298,35 +272,30 @@ static uint32_t road(uint32_t segment)
 }
 
 /* What a wheel measures lies up to 99 above it; a small generator says how much. */
-static uint32_t measured(uint32_t segment, uint32_t *seed)
+static int32_t measured(int32_t segment, uint32_t *seed)
 {
     *seed = *seed * 1664525u + 1013904223u;
-    return road(segment) + (*seed >> 16) % 100;
+    return road(segment) + (int32_t)((*seed >> 16) % 100);
 }
 
 /* The readings of a cycle: each wheel runs over four segments, the front wheels two segments ahead. */
-static void readings(struct bytes *goal, uint32_t cycle, uint32_t *seed)
+static void readings(struct bytes *goal, int32_t cycle, uint32_t *seed)
 {
-    uint32_t wheel, i;
+    int32_t wheel, i;
     goal->len = 0;
     for (wheel = 0; wheel < WHEELS; wheel++) {
-        uint32_t first = cycle * SEGMENTS_A_CYCLE + (wheel < 2 ? FRONT_AHEAD : 0);
+        int32_t first = cycle * SEGMENTS_A_CYCLE + (wheel < 2 ? FRONT_AHEAD : 0);
         for (i = 0; i < SEGMENTS_A_CYCLE * READINGS_A_SEGMENT; i++) {
-            uint32_t segment = first + i / READINGS_A_SEGMENT;
-            mu_fact(goal, segment, measured(segment, seed));
+            int32_t segment = first + i / READINGS_A_SEGMENT;
+            goal_fact(goal, MU, segment, measured(segment, seed), 0, 0);
         }
     }
 }
 
-/* A word as it stands in a record. All numbers of this program are 0 or above, so the sign is of no account. */
-static uint32_t word_at(const uint8_t *bytes)
-{
-    return (uint32_t)bytes[0] | (uint32_t)bytes[1] << 8 | (uint32_t)bytes[2] << 16 | (uint32_t)bytes[3] << 24;
-}
-
-/* The friction of each segment, 0 where there is no estimate. */
+/* The friction of each segment, where there is an estimate. None is not 0: a road without friction would be one. */
 struct estimates {
-    uint32_t friction[SEGMENTS];
+    int known[SEGMENTS];
+    int32_t friction[SEGMENTS];
 };
 
 /* The estimates of an answer: one record mu(segment, friction) for each. */
@@ -336,11 +305,12 @@ static struct estimates decode(const uint8_t *answer, uint32_t stored)
     uint32_t i;
     memset(&found, 0, sizeof found);
     for (i = 0; i < stored; i++) {
-        const uint8_t *fact = answer + NADHIRUKH_STORED_FACT * i;
-        uint32_t segment = word_at(fact + STORED_ARGUMENTS);
-        expect(fact[0] == STORED_FACT && fact[STORED_SYMBOL] == MU, "a fact that is no estimate remains");
-        expect(segment < SEGMENTS && found.friction[segment] == 0, "a segment that is not on the road, or twice");
-        found.friction[segment] = word_at(fact + STORED_ARGUMENTS + 4);
+        const uint8_t *fact = answer + NADHIRUKH_STORED_FACT_LEN * i;
+        int32_t segment = nadhirukh_argument(fact, 0);
+        expect(fact[NADHIRUKH_STORED_FACT_SYMBOL] == MU, "a fact that is no estimate remains");
+        expect(0 <= segment && segment < SEGMENTS && !found.known[segment], "a segment that is not on the road, or twice");
+        found.known[segment] = 1;
+        found.friction[segment] = nadhirukh_argument(fact, 1);
     }
     return found;
 }
@@ -351,22 +321,23 @@ static struct estimates lowest_readings(const struct bytes *goal)
     struct estimates lowest;
     size_t at;
     memset(&lowest, 0, sizeof lowest);
-    for (at = 0; at < goal->len; at += GOAL_FACT_LEN) {
-        const uint8_t *arguments = goal->at + at + GOAL_ARGUMENTS;
-        uint32_t *so_far = &lowest.friction[word_at(arguments)];
-        uint32_t friction = word_at(arguments + 4);
-        if (*so_far == 0 || friction < *so_far)
-            *so_far = friction;
+    for (at = 0; at < goal->len; at += NADHIRUKH_GOAL_FACT_LEN) {
+        const uint8_t *arguments = goal->at + at + NADHIRUKH_GOAL_FACT_ARGUMENTS;
+        int32_t segment = nadhirukh_signed(arguments);
+        int32_t friction = nadhirukh_signed(arguments + 4);
+        if (!lowest.known[segment] || friction < lowest.friction[segment])
+            lowest.friction[segment] = friction;
+        lowest.known[segment] = 1;
     }
     return lowest;
 }
 
 static void print_estimates(struct estimates estimates)
 {
-    size_t segment;
+    int segment;
     for (segment = 0; segment < SEGMENTS; segment++)
-        if (estimates.friction[segment] != 0)
-            printf(" %lu:%lu", (unsigned long)segment, (unsigned long)estimates.friction[segment]);
+        if (estimates.known[segment])
+            printf(" %d:%ld", segment, (long)estimates.friction[segment]);
     printf("\n");
 }
 
@@ -382,13 +353,22 @@ struct report {
     uint32_t bound[NADHIRUKH_BOUND];
 };
 
-static void check(const struct rules *rules)
+static void print_number(const uint32_t *result)
+{
+    printf("number %lu, place %lu: %s\n", (unsigned long)result[NADHIRUKH_NUMBER], (unsigned long)result[NADHIRUKH_PLACE],
+           in_words(result[NADHIRUKH_NUMBER]));
+}
+
+/* Looks for the weights of a table. That checks the table as well: a bad one is refused by number and place. */
+static void prepare(struct rules *rules)
 {
     uint32_t result[NADHIRUKH_RESULT];
-    if (nadhirukh_check(rules->table.at, rules->table.len, result) == 0)
+    const struct bytes *table = &rules->table;
+    rules->symbols = nadhirukh_symbols(table->at, table->len);
+    if (nadhirukh_find_weights(table->at, table->len, rules->weights, rules->symbols, result) == NADHIRUKH_DONE)
         return;
-    printf("table refused: number %lu, place %lu: %s\n", (unsigned long)result[NUMBER], (unsigned long)result[PLACE],
-           in_words(result[NUMBER]));
+    printf("table refused: ");
+    print_number(result);
     exit(1);
 }
 
@@ -397,11 +377,13 @@ static struct report run(struct gateway *gateway, const struct rules *rules, con
 {
     struct report report;
     const struct bytes *table = &rules->table;
-    if (nadhirukh_weigh(table->at, table->len, rules->weights, rules->symbols, goal->at, goal->len, report.result, report.bound) != 0)
+    if (nadhirukh_weigh(table->at, table->len, rules->weights, rules->symbols, goal->at, goal->len, report.result, report.bound)
+        != NADHIRUKH_DONE)
         return report;
-    if (nadhirukh_run(table->at, table->len, goal->at, goal->len, report.bound[1], gateway->answer, sizeof gateway->answer,
-                      report.result) == 0)
-        gateway->stored = report.result[STORED];
+    if (nadhirukh_run(table->at, table->len, goal->at, goal->len, report.bound[NADHIRUKH_BOUND_STEPS], gateway->answer,
+                      sizeof gateway->answer, report.result)
+        == NADHIRUKH_DONE)
+        gateway->stored = report.result[NADHIRUKH_STORED];
     return report;
 }
 
@@ -409,28 +391,30 @@ static struct report run(struct gateway *gateway, const struct rules *rules, con
 static int print_report(const struct report *report)
 {
     const uint32_t *result = report->result;
-    if (result[NUMBER] == 0)
-        printf("%lu firings, %lu of %lu steps:", (unsigned long)result[FIRINGS], (unsigned long)result[STEPS],
-               (unsigned long)report->bound[1]);
+    int done = result[NADHIRUKH_NUMBER] == NADHIRUKH_DONE;
+    if (done)
+        printf("%lu firings, %lu of %lu steps:", (unsigned long)result[NADHIRUKH_FIRINGS], (unsigned long)result[NADHIRUKH_STEPS],
+               (unsigned long)report->bound[NADHIRUKH_BOUND_STEPS]);
     else
-        printf("number %lu, place %lu: %s\n", (unsigned long)result[NUMBER], (unsigned long)result[PLACE], in_words(result[NUMBER]));
-    return result[NUMBER] == 0;
+        print_number(result);
+    return done;
 }
 
 static void drive(struct gateway *gateway)
 {
     struct rules rules;
     struct bytes goal;
-    uint32_t cycle, seed = 2004;
-    lowest_table(&rules);
-    check(&rules);
+    uint32_t seed = 2004;
+    int cycle;
+    lowest_table(&rules.table);
+    prepare(&rules);
     printf("The lowest friction of each segment, in thousandths, of 64 readings a cycle:\n");
     for (cycle = 0; cycle < CYCLES; cycle++) {
         struct report report;
         struct estimates estimates, lowest;
         readings(&goal, cycle, &seed);
         report = run(gateway, &rules, &goal);
-        printf("cycle %2lu: ", (unsigned long)cycle + 1);
+        printf("cycle %2d: ", cycle + 1);
         expect(print_report(&report), "a cycle that is not done");
         estimates = decode(gateway->answer, gateway->stored);
         print_estimates(estimates);
@@ -442,26 +426,26 @@ static void drive(struct gateway *gateway)
 /* One reading of each wheel, all of which turn but the one that stands still, if there is one. */
 static void slip_readings(struct bytes *goal, int standing)
 {
-    static const uint32_t segment[WHEELS] = {81, 81, 79, 79};
-    static const uint32_t difference[WHEELS] = {500, 480, 610, 300};
-    static const uint32_t speed[WHEELS] = {20, 21, 20, 19};
-    static const uint32_t friction[WHEELS] = {790, 760, 805, 770};
+    static const int32_t segment[WHEELS] = {81, 81, 79, 79};
+    static const int32_t difference[WHEELS] = {500, 480, 610, 300};
+    static const int32_t speed[WHEELS] = {20, 21, 20, 19};
+    static const int32_t friction[WHEELS] = {790, 760, 805, 770};
     int wheel;
     goal->len = 0;
     for (wheel = 0; wheel < WHEELS; wheel++)
-        reading_fact(goal, segment[wheel], difference[wheel], wheel == standing ? 0 : speed[wheel], friction[wheel]);
+        goal_fact(goal, READING, segment[wheel], difference[wheel], wheel == standing ? 0 : speed[wheel], friction[wheel]);
 }
 
 /* Cycles under a table that divides by the wheel speed: all wheels turn, then wheel 2 stands still. */
 static void brake(struct gateway *gateway)
 {
-    enum { NONE = -1 };
+    enum { NONE = -1, SLIP_RULE = 1 };
     struct gateway before;
     struct rules rules;
     struct bytes goal;
     struct report report;
-    slip_table(&rules);
-    check(&rules);
+    slip_table(&rules.table);
+    prepare(&rules);
     printf("The same of wheels that slip, by a rule that divides by the wheel speed:\n");
     slip_readings(&goal, NONE);
     report = run(gateway, &rules, &goal);
@@ -473,7 +457,9 @@ static void brake(struct gateway *gateway)
     slip_readings(&goal, 2);
     report = run(gateway, &rules, &goal);
     printf("wheel 2 stands still: ");
-    expect(!print_report(&report) && report.result[NUMBER] == 3 && report.result[PLACE] == 1, "an ending other than 3 by rule 1");
+    expect(!print_report(&report), "a cycle that is done");
+    expect(report.result[NADHIRUKH_NUMBER] == NADHIRUKH_GUARD_UNDEFINED && report.result[NADHIRUKH_PLACE] == SLIP_RULE,
+           "an ending other than an undefined guard of the slip rule");
     expect(memcmp(gateway, &before, sizeof before) == 0, "the answer buffer has changed");
     printf("no new estimate; the answer buffer is as it was, and the last estimates hold:");
     print_estimates(decode(gateway->answer, gateway->stored));

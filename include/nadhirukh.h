@@ -1,64 +1,24 @@
 /*
  * Nadhirukh: a proved engine for Constraint Handling Rules over whole numbers.
  *
- * Every call returns, whatever bytes it is given, and reports how it ended by six numbers:
+ * Every call returns, whatever bytes it is given. It writes all NADHIRUKH_RESULT words of `result` on every return, and returns the
+ * first of them, the number. NADHIRUKH_DONE, 0, is the only number of success; after any other one the answer buffer is as it was. So
+ * ask for the number first, and for the facts only after 0: "not done" and "done, and nothing is left" are different things, and
+ * result[NADHIRUKH_STORED] may be 0 after both.
  *
- *     result[0]  number       0: good, or done; otherwise why not (below)
- *     result[1]  place        where: an offset in the table, a fact of the goal, a rule or a symbol, by the number
- *     result[2]  steps        steps taken
- *     result[3]  firings      rules fired
- *     result[4]  identifiers  identifiers given to facts
- *     result[5]  stored       facts stored at the end
- *
- * The number is also what the call returns. On every return all six are written.
- *
- * Memory. The caller owns every buffer. A call reads what is `const`, writes the six words of `result`, and of `answer`, `bound` and
- * the weights to be found what is said below, and touches nothing else. No pointer is null, also where the length is 0, and no two
- * buffers of a call overlap. Nothing is kept from call to call and nothing is allocated, so calls may be made from several threads at
- * once, each with its own buffers to write; they may read the same table, as long as nobody writes it meanwhile.
+ * Memory. The caller owns every buffer. A call reads what is `const`, writes the words of `result`, and of `answer`, `bound` and the
+ * weights to be found what is said below, and touches nothing else. No pointer is null, also where the length is 0, and no two buffers
+ * of a call overlap. Nothing is kept from call to call and nothing is allocated, so calls may be made from several threads at once,
+ * each with its own buffers to write; they may read the same table, as long as nobody writes it meanwhile.
  *
  * Stack. Over the stored cases of this project a run took at most 21,616 bytes of machine stack on x86-64, a check 1,896, a weighing
  * 3,080 and looking for weights 2,616 (docs/MEASUREMENTS.md). These are measured, not proved: allow 26,624 for a run, and 6,656 for any
  * other call.
  *
- * Numbers of a run that was admitted:
+ * Linking. The archive is for x86-64, by the System V calling convention. Of the C library it needs `memcpy` and `memset` alone, so it
+ * links without one where the program has these two. It has no data of its own.
  *
- *      0  done: the answer has the facts stored                         place: 0
- *      1  failed                                                        place: 0
- *      2  step limit used up                                            place: 0
- *      3  guard undefined                                               place: the rule, from 0
- *      4  body argument undefined                                       place: the rule
- *      5  store full: a fact more than 128                              place: 0
- *      6  stack full: more than 256 entries after this firing           place: the rule
- *      7  history full: more than 256 entries after this firing         place: the rule
- *
- * Numbers of a refusal; steps, firings, identifiers and stored are then 0:
- *
- *     16  unknown kind of record                                        place: the record's offset
- *     17  record cut short, or no end record                            place: its offset, or the table's length
- *     18  record out of order                                           place: offset
- *     19  one too many of its sort                                      place: offset
- *     20  bad field                                                     place: offset
- *     21  guard, body item, rule or end after a rule with no head       place: offset
- *     22  guard or body variable in no head                             place: offset
- *     23  bytes after the end record                                    place: the first such byte
- *     32  goal's length no multiple of 18                               place: 0
- *     33  bad goal fact: kind, symbol or a later place                  place: the fact, from 0
- *     34  goal of more than 64 facts                                    place: 0
- *     35  step limit above 20,000,000                                   place: 0
- *     36  answer shorter than 2,816 bytes                               place: 0
- *     40  as many weights as symbols are wanted                         place: 0
- *     41  a weight of zero                                              place: the symbol, from 0
- *     42  a rule that does not lose weight                              place: the rule, from 0
- *
- * A run that is sure to end: find weights once for a table of `symbols` symbols, weigh each goal, and run it with the bound as limit.
- *
- *     uint8_t weights[NADHIRUKH_MAX_SYMBOLS];
- *     if (nadhirukh_find_weights(table, table_len, weights, symbols, result) == 0
- *         && nadhirukh_weigh(table, table_len, weights, symbols, goal, goal_len, result, bound) == 0)
- *         nadhirukh_run(table, table_len, goal, goal_len, bound[1], answer, sizeof answer, result);
- *
- * The run then does not end in 2 or 7, nor in 5 if bound[0] is at most 128.
+ * This header is C89, but for <stdint.h>, and C++98.
  */
 #ifndef NADHIRUKH_H
 #define NADHIRUKH_H
@@ -66,48 +26,202 @@
 #include <stddef.h>
 #include <stdint.h>
 
+/* Rises with each change of a call that was there before. */
+#define NADHIRUKH_VERSION 1
+
+/* The words of a result, and how many there are. */
+#define NADHIRUKH_RESULT 6
+#define NADHIRUKH_NUMBER 0      /* how it ended: a number below */
+#define NADHIRUKH_PLACE 1       /* where: an offset in the table, a fact of the goal, a rule or a symbol, by the number */
+#define NADHIRUKH_STEPS 2       /* steps taken */
+#define NADHIRUKH_FIRINGS 3     /* rules fired */
+#define NADHIRUKH_IDENTIFIERS 4 /* identifiers given to facts */
+#define NADHIRUKH_STORED 5      /* facts stored at the end */
+
+/* The words of a bound, and how many there are. */
+#define NADHIRUKH_BOUND 2
+#define NADHIRUKH_BOUND_WEIGHT 0 /* W, what the goal weighs */
+#define NADHIRUKH_BOUND_STEPS 1  /* the most steps that a run of it takes */
+
+/* The numbers of a run that was admitted. NADHIRUKH_DONE is also what a good table, a good weighing and weights that are found give. */
+#define NADHIRUKH_DONE 0u            /* done: the answer has the facts stored; place: 0 */
+#define NADHIRUKH_FAILED 1u          /* a rule said fail; place: 0 */
+#define NADHIRUKH_STEP_LIMIT 2u      /* the step limit is used up; place: 0 */
+#define NADHIRUKH_GUARD_UNDEFINED 3u /* a guard has no value; place: the rule, from 0 */
+#define NADHIRUKH_BODY_UNDEFINED 4u  /* an argument of a body fact has no value; place: the rule */
+#define NADHIRUKH_STORE_FULL 5u      /* the store is full: a fact more than 128; place: 0 */
+#define NADHIRUKH_STACK_FULL 6u      /* the stack is full: more than 256 entries after this firing; place: the rule */
+#define NADHIRUKH_HISTORY_FULL 7u    /* the history is full: more than 256 entries after this firing; place: the rule */
+
+/* The numbers of a refusal, from 16 on. Steps, firings, identifiers and stored are then 0. First those of the table: */
+#define NADHIRUKH_UNKNOWN_KIND 16u        /* a record of unknown kind; place: its offset */
+#define NADHIRUKH_CUT_SHORT 17u           /* a record cut short, or no end record; place: its offset, or the table's length */
+#define NADHIRUKH_OUT_OF_ORDER 18u        /* a record out of order; place: its offset */
+#define NADHIRUKH_ONE_TOO_MANY 19u        /* one record too many of its sort; place: its offset */
+#define NADHIRUKH_BAD_FIELD 20u           /* a record with a bad field; place: its offset */
+#define NADHIRUKH_NO_HEAD 21u             /* a guard, body item, rule or end after a rule with no head; place: its offset */
+#define NADHIRUKH_VARIABLE_IN_NO_HEAD 22u /* a guard or body variable that is in no head; place: the record's offset */
+#define NADHIRUKH_BYTES_AFTER_END 23u     /* bytes after the end record; place: the first of them */
+
+/* Then those of the goal, the limit and the answer buffer: */
+#define NADHIRUKH_GOAL_CUT 32u         /* the goal's length is no multiple of 18; place: 0 */
+#define NADHIRUKH_BAD_GOAL_FACT 33u    /* a goal fact with a bad kind, symbol or later place; place: the fact, from 0 */
+#define NADHIRUKH_GOAL_TOO_LONG 34u    /* a goal of more than 64 facts; place: 0 */
+#define NADHIRUKH_LIMIT_TOO_HIGH 35u   /* a step limit above 20,000,000; place: 0 */
+#define NADHIRUKH_ANSWER_TOO_SHORT 36u /* an answer buffer shorter than 2,816 bytes; place: 0 */
+
+/* And those of the weights: */
+#define NADHIRUKH_WEIGHT_COUNT 40u   /* not as many weights as symbols; place: 0 */
+#define NADHIRUKH_ZERO_WEIGHT 41u    /* a weight of zero; place: the symbol, from 0 */
+#define NADHIRUKH_NO_WEIGHT_LOST 42u /* a rule that does not lose weight; place: the rule, from 0 */
+
+/* How much there may be at most, and the least length of an answer buffer, in which every store has room. */
+#define NADHIRUKH_MAX_TABLE 23681u     /* bytes of a good table */
+#define NADHIRUKH_MAX_SYMBOLS 32u      /* symbols of a table */
+#define NADHIRUKH_MAX_RULES 64u        /* rules of a table */
+#define NADHIRUKH_MAX_GOAL_FACTS 64u   /* facts of a goal */
+#define NADHIRUKH_MAX_GOAL 1152u       /* bytes of a goal */
+#define NADHIRUKH_MAX_STORED 128u      /* facts stored */
+#define NADHIRUKH_MAX_LIMIT 20000000ul /* step limit */
+#define NADHIRUKH_MIN_ANSWER 2816u     /* bytes of an answer buffer, at least */
+
+/* The kinds of records, the first byte of each: of a table, */
+#define NADHIRUKH_KIND_SYMBOL 1
+#define NADHIRUKH_KIND_RULE 2
+#define NADHIRUKH_KIND_KEPT_HEAD 3
+#define NADHIRUKH_KIND_REMOVED_HEAD 4
+#define NADHIRUKH_KIND_GUARD 5
+#define NADHIRUKH_KIND_BODY_FACT 6
+#define NADHIRUKH_KIND_BODY_FAIL 7
+#define NADHIRUKH_KIND_END 8
+/* of a goal, */
+#define NADHIRUKH_KIND_GOAL_FACT 16
+/* and of an answer. */
+#define NADHIRUKH_KIND_STORED_FACT 17
+
+/* The tags of slots, the operations of expressions, the comparators of guards. */
+#define NADHIRUKH_TAG_UNUSED 0
+#define NADHIRUKH_TAG_CONSTANT 1
+#define NADHIRUKH_TAG_VARIABLE 2
+#define NADHIRUKH_OPERATION_ALONE 0
+#define NADHIRUKH_OPERATION_SUM 1
+#define NADHIRUKH_OPERATION_DIFFERENCE 2
+#define NADHIRUKH_OPERATION_PRODUCT 3
+#define NADHIRUKH_OPERATION_QUOTIENT 4
+#define NADHIRUKH_OPERATION_REMAINDER 5
+#define NADHIRUKH_COMPARATOR_EQUAL 0
+#define NADHIRUKH_COMPARATOR_UNEQUAL 1
+#define NADHIRUKH_COMPARATOR_LESS 2
+#define NADHIRUKH_COMPARATOR_AT_MOST 3
+#define NADHIRUKH_COMPARATOR_GREATER 4
+#define NADHIRUKH_COMPARATOR_AT_LEAST 5
+
+/* A goal fact: its length, and where its parts begin. It has four arguments of four bytes, lowest first, later places zero. */
+#define NADHIRUKH_GOAL_FACT_LEN 18u
+#define NADHIRUKH_GOAL_FACT_SYMBOL 1u
+#define NADHIRUKH_GOAL_FACT_ARGUMENTS 2u
+
+/* A stored fact, in an answer: the same, behind an identifier of four bytes. */
+#define NADHIRUKH_STORED_FACT_LEN 22u
+#define NADHIRUKH_STORED_FACT_IDENTIFIER 1u
+#define NADHIRUKH_STORED_FACT_SYMBOL 5u
+#define NADHIRUKH_STORED_FACT_ARGUMENTS 6u
+
 #ifdef __cplusplus
 extern "C" {
 #endif
 
-/* How many words a result has, and a bound. */
-#define NADHIRUKH_RESULT 6
-#define NADHIRUKH_BOUND 2
-
-/* The most symbols that a table has. */
-#define NADHIRUKH_MAX_SYMBOLS 32u
-
-/* The greatest step limit, the length of the shortest answer buffer, and that of a stored fact in it. */
-#define NADHIRUKH_MAX_LIMIT 20000000ul
-#define NADHIRUKH_MIN_ANSWER 2816u
-#define NADHIRUKH_STORED_FACT 22u
-
-/* Checks a table of table_len bytes: six zeros where it is good, otherwise 16 to 23 and the place. */
+/* Checks a table of table_len bytes: all words 0 where it is good, otherwise 16 to 23 and the place. */
 uint32_t nadhirukh_check(const uint8_t *table, size_t table_len, uint32_t result[NADHIRUKH_RESULT]);
 
 /*
- * Runs a goal of 18 bytes a fact on a table, at most `limit` steps. Where the number is 0, the first 22 * result[5] bytes of the answer
- * are the facts stored, by rising identifier: a byte 17, identifier (4 bytes), symbol (1), four arguments (4 each), lowest byte first.
- * All other bytes of the answer keep what they held; where the number is not 0, all of them.
+ * Runs a goal of NADHIRUKH_GOAL_FACT_LEN bytes a fact on a table, at most `limit` steps. Where the number is 0, the first
+ * NADHIRUKH_STORED_FACT_LEN * result[NADHIRUKH_STORED] bytes of the answer are the facts stored, by rising identifier. All other bytes
+ * of the answer keep what they held; where the number is not 0, all of them.
  */
 uint32_t nadhirukh_run(const uint8_t *table, size_t table_len, const uint8_t *goal, size_t goal_len, uint32_t limit, uint8_t *answer,
                        size_t answer_len, uint32_t result[NADHIRUKH_RESULT]);
 
 /*
  * Weighs a table with one weight, a byte from 1 to 255, for each symbol. Where the number is 0, every run of this goal ends within
- * bound[1] steps, and bound[0] is W, what the goal weighs; otherwise both are 0. Both are written on every return.
+ * bound[NADHIRUKH_BOUND_STEPS] steps, and bound[NADHIRUKH_BOUND_WEIGHT] is W, what the goal weighs; otherwise both are 0. Both are
+ * written on every return.
  */
 uint32_t nadhirukh_weigh(const uint8_t *table, size_t table_len, const uint8_t *weights, size_t weights_len, const uint8_t *goal,
                          size_t goal_len, uint32_t result[NADHIRUKH_RESULT], uint32_t bound[NADHIRUKH_BOUND]);
 
 /*
- * Looks for weights with which nadhirukh_weigh does not refuse the table: weights_len is the table's number of symbols. Where the number
- * is 0, every byte of `weights` is written, and none is 0; otherwise all keep what they held. 16 to 23 and 40 are as above; 42 says that
- * none were found, and its place is the rule that could not be raised further. Where every rule has one removed head, weights are found
- * if there are any; where a rule has more, they may be missed.
+ * Looks for weights with which nadhirukh_weigh does not refuse the table. weights_len is the table's number of symbols, which
+ * nadhirukh_symbols gives. Where the number is 0, every byte of `weights` is written, and none is 0; otherwise all keep what they held.
+ * 16 to 23 and 40 are as above; 42 says that none were found, and its place is the rule that could not be raised further. Where every
+ * rule has one removed head, weights are found if there are any; where a rule has more, they may be missed.
+ *
+ * A run that is sure to end: find weights once for a table, weigh each goal, and run it with the bound as limit.
+ *
+ *     uint8_t weights[NADHIRUKH_MAX_SYMBOLS];
+ *     size_t symbols = nadhirukh_symbols(table, table_len);
+ *     if (nadhirukh_find_weights(table, table_len, weights, symbols, result) == NADHIRUKH_DONE
+ *         && nadhirukh_weigh(table, table_len, weights, symbols, goal, goal_len, result, bound) == NADHIRUKH_DONE)
+ *         nadhirukh_run(table, table_len, goal, goal_len, bound[NADHIRUKH_BOUND_STEPS], answer, sizeof answer, result);
+ *
+ * The run then does not end in 2 or 7, nor in 5 if bound[NADHIRUKH_BOUND_WEIGHT] is at most 128.
  */
 uint32_t nadhirukh_find_weights(const uint8_t *table, size_t table_len, uint8_t *weights, size_t weights_len,
                                 uint32_t result[NADHIRUKH_RESULT]);
+
+/*
+ * What every caller would write anew. These are C, and tested, not proved.
+ */
+#if defined(__cplusplus) || (defined(__STDC_VERSION__) && __STDC_VERSION__ >= 199901L)
+#define NADHIRUKH_INLINE static inline
+#elif defined(__GNUC__)
+#define NADHIRUKH_INLINE static __inline__
+#else
+#define NADHIRUKH_INLINE static
+#endif
+
+/* The number of symbols of a good table: their records stand first, two bytes each. At most NADHIRUKH_MAX_SYMBOLS for any bytes. */
+NADHIRUKH_INLINE size_t nadhirukh_symbols(const uint8_t *table, size_t table_len)
+{
+    size_t count = 0;
+    while (count < NADHIRUKH_MAX_SYMBOLS && 2 * count + 1 < table_len && table[2 * count] == NADHIRUKH_KIND_SYMBOL)
+        count++;
+    return count;
+}
+
+/* A word of four bytes, lowest first: an identifier. */
+NADHIRUKH_INLINE uint32_t nadhirukh_word(const uint8_t *bytes)
+{
+    return (uint32_t)bytes[0] | (uint32_t)bytes[1] << 8 | (uint32_t)bytes[2] << 16 | (uint32_t)bytes[3] << 24;
+}
+
+/* The same as a number with a sign, two's complement: an argument. */
+NADHIRUKH_INLINE int32_t nadhirukh_signed(const uint8_t *bytes)
+{
+    uint32_t word = nadhirukh_word(bytes);
+    return word <= 0x7FFFFFFFu ? (int32_t)word : -(int32_t)(0xFFFFFFFFu - word) - 1;
+}
+
+/* Argument i, from 0 to 3, of a stored fact. */
+NADHIRUKH_INLINE int32_t nadhirukh_argument(const uint8_t *fact, size_t i)
+{
+    return nadhirukh_signed(fact + NADHIRUKH_STORED_FACT_ARGUMENTS + 4 * i);
+}
+
+/* Writes a goal fact with four arguments: NADHIRUKH_GOAL_FACT_LEN bytes. Those that its symbol does not use have to be 0. */
+NADHIRUKH_INLINE void nadhirukh_put_goal_fact(uint8_t *fact, uint8_t symbol, int32_t a, int32_t b, int32_t c, int32_t d)
+{
+    uint32_t arguments[4];
+    size_t i;
+    arguments[0] = (uint32_t)a;
+    arguments[1] = (uint32_t)b;
+    arguments[2] = (uint32_t)c;
+    arguments[3] = (uint32_t)d;
+    fact[0] = NADHIRUKH_KIND_GOAL_FACT;
+    fact[NADHIRUKH_GOAL_FACT_SYMBOL] = symbol;
+    for (i = 0; i < 16; i++)
+        fact[NADHIRUKH_GOAL_FACT_ARGUMENTS + i] = (uint8_t)(arguments[i / 4] >> 8 * (i % 4) & 0xFFu);
+}
 
 #ifdef __cplusplus
 }

@@ -6,10 +6,10 @@
 #ifndef CASES_H
 #define CASES_H
 
-#include <stddef.h>
-#include <stdint.h>
 #include <stdio.h>
 #include <stdlib.h>
+
+#include "nadhirukh.h"
 
 /* The length of a case's header, and the most bytes that the cases may have. */
 #define HEADER 21
@@ -35,20 +35,15 @@ struct stored_case {
     const uint8_t *weights;
 };
 
-static uint32_t word_at(const uint8_t *bytes)
-{
-    return (uint32_t)bytes[0] | (uint32_t)bytes[1] << 8 | (uint32_t)bytes[2] << 16 | (uint32_t)bytes[3] << 24;
-}
-
 static struct stored_case read_case(const uint8_t *bytes)
 {
     struct stored_case c;
     c.kind = bytes[0];
-    c.table_len = word_at(bytes + 1);
-    c.goal_len = word_at(bytes + 5);
-    c.weights_len = word_at(bytes + 9);
-    c.limit = word_at(bytes + 13);
-    c.answer_len = word_at(bytes + 17);
+    c.table_len = nadhirukh_word(bytes + 1);
+    c.goal_len = nadhirukh_word(bytes + 5);
+    c.weights_len = nadhirukh_word(bytes + 9);
+    c.limit = nadhirukh_word(bytes + 13);
+    c.answer_len = nadhirukh_word(bytes + 17);
     c.table = bytes + HEADER;
     c.goal = c.table + c.table_len;
     c.weights = c.goal + c.goal_len;

@@ -8,7 +8,6 @@
 #include <string.h>
 
 #include "cases.h"
-#include "nadhirukh.h"
 
 /*
  * Bytes before and after each buffer that no call may touch. Under valgrind there are none: a buffer then is a block of its own, and a
@@ -77,7 +76,7 @@ static void take_back_kept(struct lent lent, const uint8_t *content)
     take_back(lent);
 }
 
-/* A row of at most six words, between as many guard words. */
+/* A row of words, as many as a result has at most, between as many guard words. */
 struct words {
     uint32_t row[3 * NADHIRUKH_RESULT];
 };
@@ -105,7 +104,7 @@ static void print_words(const struct words *words, size_t count)
 /* Prints a result; the number is the one returned. */
 static void print_result(const struct words *result, uint32_t number)
 {
-    if (number != result->row[NADHIRUKH_RESULT])
+    if (number != result->row[NADHIRUKH_RESULT + NADHIRUKH_NUMBER])
         fail("the number returned is not the result's");
     print_words(result, NADHIRUKH_RESULT);
 }
@@ -136,8 +135,9 @@ static void print_bytes(const uint8_t *bytes, size_t len)
 /* Prints the records that a run wrote, and whether all other bytes are as they were. */
 static void print_answer(struct lent answer, const struct words *result)
 {
-    uint32_t number = result->row[NADHIRUKH_RESULT];
-    size_t written = number == 0 ? (size_t)NADHIRUKH_STORED_FACT * result->row[2 * NADHIRUKH_RESULT - 1] : 0;
+    uint32_t number = result->row[NADHIRUKH_RESULT + NADHIRUKH_NUMBER];
+    uint32_t stored = result->row[NADHIRUKH_RESULT + NADHIRUKH_STORED];
+    size_t written = number == NADHIRUKH_DONE ? (size_t)NADHIRUKH_STORED_FACT_LEN * stored : 0;
     size_t i = written;
     if (answer.len < written)
         fail("more facts are stored than the answer has room for");
@@ -185,6 +185,14 @@ static void weigh(struct stored_case c)
     printf("\n");
 }
 
+/* Whether a search of a good table took the number of its symbols for another one than the header's function gives. */
+static int counted_otherwise(struct lent table, size_t weights, uint32_t number)
+{
+    int good = number < NADHIRUKH_UNKNOWN_KIND || NADHIRUKH_BYTES_AFTER_END < number;
+    int as_many = nadhirukh_symbols(table.bytes, table.len) == weights;
+    return good && as_many == (number == NADHIRUKH_WEIGHT_COUNT);
+}
+
 /* The buffer holds the case's weights before; the line ends with what it holds afterwards. */
 static void find_weights(struct stored_case c)
 {
@@ -197,8 +205,10 @@ static void find_weights(struct stored_case c)
     printf("F");
     print_result(&result, number);
     print_bytes(weights.bytes, weights.len);
-    if (number != 0 && memcmp(weights.bytes, c.weights, c.weights_len) != 0)
+    if (number != NADHIRUKH_DONE && memcmp(weights.bytes, c.weights, c.weights_len) != 0)
         fail("weights were written, and none were found");
+    if (counted_otherwise(table, weights.len, number))
+        fail("nadhirukh_symbols and the call count the table's symbols differently");
     take_back_kept(table, c.table);
     take_back(weights);
     printf("\n");

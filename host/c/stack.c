@@ -7,7 +7,6 @@
 #include <ucontext.h>
 
 #include "cases.h"
-#include "nadhirukh.h"
 
 #define STACK (256ul * 1024)
 #define PAINT 0xC3

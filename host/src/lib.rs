@@ -8,6 +8,7 @@
 //! - [`plain`]: a plain fast engine with the proved engine's scan, the yardstick for its speed.
 //! - [`build`]: tables and goals in readable form, for tests and examples.
 //! - [`example`]: programs in readable text, with goals and what they must leave.
+//! - [`header`]: the numbers that the C header names.
 //! - [`words`]: the numbers of a result in words, from the C header.
 //! - [`tools`]: what the programs have in common: files by name, and how a program ends.
 //! - [`ending`]: how a run ends, with what does not depend on the order of partners.
@@ -26,6 +27,7 @@ pub mod example;
 #[cfg(feature = "gateway")]
 pub mod ffi;
 pub mod format;
+pub mod header;
 pub mod names;
 pub mod outcome;
 pub mod plain;

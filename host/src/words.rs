@@ -1,20 +1,15 @@
-//! The numbers of a result in words. The C header lists them all, so the words are taken from there.
+//! The numbers of a result in words. The C header names them all, so the words are taken from there.
 
 use crate::format::{
     GUARD, KEPT, MAX_GUARDS, MAX_HEADS, MAX_ITEMS, MAX_RULES, MAX_SYMBOLS, REMOVED, RULE, SYMBOL,
 };
+use crate::header::definitions;
 use crate::outcome::{Outcome, Refusal};
 
-/// Its first comment has a line for each number: the number, its words, `place:` and what that is.
-const HEADER: &str = include_str!("../../include/nadhirukh.h");
-
-/// What a number means, in the header's words; nothing for a number that is not in its list.
+/// What a number means, in the header's words; nothing for a number that it does not name.
 pub fn meaning(number: u32) -> Option<&'static str> {
-    HEADER.lines().find_map(|line| {
-        let (listed, behind) = line.strip_prefix(" *")?.trim_start().split_once("  ")?;
-        let (words, _) = behind.split_once("place:")?;
-        (listed.parse() == Ok(number)).then(|| words.trim())
-    })
+    let mut named = definitions().filter(|definition| definition.value == number as usize);
+    named.find_map(|definition| Some(definition.ending()?.0))
 }
 
 /// Why a table, or a goal of it, is refused.

@@ -153,7 +153,7 @@ fn what_the_engines_refuse_is_told_at_its_statement() {
         refused(&text, 33, "one symbol too many, a table has at most 32");
     }
     let goal = "p/0.\ngoal p".to_string() + &", p".repeat(64) + "\nleaves true.";
-    refused(&goal, 2, "goal of more than 64 facts");
+    refused(&goal, 2, "a goal of more than 64 facts");
     let heads = "p/4. p(A,B,C,D), p(E,F,G,H), p(I,J,K,L), p(M,N,O,P) <=> true.";
     assert_eq!(read(heads).goals.len(), 0);
 }

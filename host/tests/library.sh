@@ -1,7 +1,8 @@
 #!/usr/bin/env bash
 # The proved library through its C interface, linked into C programs: on the stored cases one prints the lines of the second engine;
-# the gateway of host/gateway.c prints what is stored, as C and as C++; and valgrind finds no fault in either. Linked into a Rust
-# program, by the declarations of host/src/ffi.rs, it agrees with the second engine.
+# the gateway of host/gateway.c prints what is stored, as C and as C++; and valgrind finds no fault in either. The header is good in
+# every standard, its own functions and the example of README.md do what they should, and the archive needs what the header says. Linked
+# into a Rust program, by the declarations of host/src/ffi.rs, the library agrees with the second engine.
 # The library is for x86-64. There the programs are built and run as they are; elsewhere by a cross compiler and under qemu, and
 # without valgrind and Rust.
 set -u
@@ -34,10 +35,11 @@ replay() {
     "${runner[@]}" "$made/replay" < crates/vectors/stdin > "$made/stdout" && cmp "$made/stdout" crates/vectors/stdout
 }
 
-# Not linked statically: Debian's cross compiler finds no static library of mathematics, which each C++ program links.
-build_cxx() {
-    "$cxx" -x c++ -std=c++98 -pedantic-errors -Wall -Wextra -Werror -O2 -Iinclude host/gateway.c \
-        -x none target/staticlib/libgateway.a -o "$made/gateway-cxx"
+# link_cxx SOURCE PROGRAM: as link_c does, as C++. Not linked statically: Debian's cross compiler finds no static library of mathematics,
+# which each C++ program links.
+link_cxx() {
+    "$cxx" -x c++ -std=c++98 -pedantic-errors -Wall -Wextra -Werror -O2 -Iinclude -I"$made" "$1" \
+        -x none target/staticlib/libgateway.a -o "$2"
 }
 
 # gateway PROGRAM: prints what is stored, and ends with status 0.
@@ -45,16 +47,44 @@ gateway() {
     "${runner[@]}" "$1" > "$made/stdout" && cmp "$made/stdout" host/gateway.stdout
 }
 
-# The numbers that the header lists.
+# The numbers of endings and refusals that the header names.
 numbers() {
-    sed -nE 's/^ \*  +([0-9]+)  [a-z].*/\1/p' include/nadhirukh.h
+    sed -nE 's/^#define NADHIRUKH_[A-Z_]+ ([0-9]+)u +\/\*.*; place: .*/\1/p' include/nadhirukh.h
 }
 
 # The gateway has words for every number of the header, and for no other.
 endings() {
     numbers > "$made/numbers"
-    [ "$(wc -l < "$made/numbers")" -eq 24 ] || { echo "library.sh: include/nadhirukh.h does not list 24 numbers"; return 1; }
+    [ "$(wc -l < "$made/numbers")" -eq 24 ] || { echo "library.sh: include/nadhirukh.h does not name 24 numbers"; return 1; }
     "${runner[@]}" "$made/gateway" endings > "$made/endings" && cut -d ' ' -f 1 "$made/endings" | cmp - "$made/numbers"
+}
+
+# The header alone, in every standard that a compiler may keep to.
+standards() {
+    local standard
+    for standard in c89 c99 c11 c17; do
+        "$compiler" -x c -std=$standard -pedantic-errors -Wall -Wextra -Werror -fsyntax-only include/nadhirukh.h || return
+    done
+    for standard in c++98 c++11 c++17; do
+        "$cxx" -x c++ -std=$standard -pedantic-errors -Wall -Wextra -Werror -fsyntax-only include/nadhirukh.h || return
+    done
+}
+
+# The archive needs two functions of the C library and no other, as the header says.
+needs() {
+    "${compiler%gcc}nm" -u target/staticlib/libgateway.a | sed -n 's/^ *U //p' | sort -u | paste -sd ' ' > "$made/needs"
+    echo "memcpy memset" | cmp - "$made/needs"
+}
+
+# The example of README.md: its indented lines from the one that includes the header up to the next text.
+write_example() {
+    sed -n '/^    #include "nadhirukh.h"$/,/^[^ ]/{ /^[^ ]/d; s/^    //; p; }' README.md > "$made/example.h"
+    grep -q '^enum outcome estimate' "$made/example.h"
+}
+
+# header_functions PROGRAM: the functions of the header and the example of README.md, at their edges.
+header_functions() {
+    "${runner[@]}" "$1" < crates/run/stdin
 }
 
 # Under valgrind programs are linked with the shared C library, since valgrind watches its allocations, and buffers have no guard
@@ -90,8 +120,15 @@ try "running the stored cases through the C interface" replay
 try "building the gateway as C" link_c host/gateway.c "$made/gateway" -static
 try "running the gateway" gateway "$made/gateway"
 try "words for every number" endings
-try "building the gateway as C++" build_cxx
+try "building the gateway as C++" link_cxx host/gateway.c "$made/gateway-cxx"
 try "running the gateway built as C++" gateway "$made/gateway-cxx"
+try "the header in every standard" standards
+try "what the archive needs" needs
+try "the example of README.md" write_example
+try "building it and the header's functions as C" link_c host/c/header.c "$made/header" -static -I"$made"
+try "the header's functions in C" header_functions "$made/header"
+try "building it and the header's functions as C++" link_cxx host/c/header.c "$made/header-cxx"
+try "the header's functions in C++" header_functions "$made/header-cxx"
 if on_x86; then
     have valgrind valgrind libc6-dbg || echo "library.sh: $missing"
     try "building programs for valgrind" valgrind_build

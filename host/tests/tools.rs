@@ -126,7 +126,7 @@ fn show_ends_with_status_1_where_a_rule_stops_the_run() {
     let (x, y) = (variable(0), variable(1));
     let negative = Rule::new().remove(0, &[x]);
     let negative = negative.guard(alone(x), LESS, alone(constant(0))).fail();
-    let failed = "rule 0 fired 1 time\nfailed\n1 0 3 1 1 0\n";
+    let failed = "rule 0 fired 1 time\na rule said fail\n1 0 3 1 1 0\n";
     ends(
         "failed",
         table(&[1], &[negative]),
@@ -136,14 +136,14 @@ fn show_ends_with_status_1_where_a_rule_stops_the_run() {
     let quotient = of(QUOTIENT, x, y);
     let divide = Rule::new().remove(0, &[x, y]);
     let divide = divide.guard(quotient, GREATER, alone(constant(3)));
-    let guard = "guard undefined: rule 0\n3 0 1 0 1 1\n1 s0(1,0)\n";
+    let guard = "a guard has no value: rule 0\n3 0 1 0 1 1\n1 s0(1,0)\n";
     ends(
         "guard",
         table(&[2], &[divide]),
         goal(&[(0, &[1, 0])]),
         guard,
     );
-    let body = "body argument undefined: rule 0\n4 0 3 1 2 1\n";
+    let body = "an argument of a body fact has no value: rule 0\n4 0 3 1 2 1\n";
     ends("body", counting(1), goal(&[(0, &[i32::MAX - 1])]), body);
 }
 
@@ -151,14 +151,15 @@ fn show_ends_with_status_1_where_a_rule_stops_the_run() {
 fn show_ends_with_status_1_where_there_is_no_room() {
     let (x, y) = (variable(0), variable(1));
     let twice = Rule::new().keep(0, &[x]).add(1, &[]).add(1, &[]);
-    let store = "store full: a fact more than 128\n5 0 340 43 128 128\n";
+    let store = "the store is full: a fact more than 128\n5 0 340 43 128 128\n";
     ends("store", table(&[1, 0], &[twice]), counted(43), store);
     let next = of(SUM, x, constant(1));
     let grow = Rule::new().remove(0, &[x]).add(0, &[next]).add(0, &[next]);
-    let stack = "stack full: more than 256 entries after this firing: rule 0\n6 0 511 255 256 1\n";
+    let stack =
+        "the stack is full: more than 256 entries after this firing: rule 0\n6 0 511 255 256 1\n";
     ends("stack", table(&[1], &[grow]), counted(1), stack);
     let pairs = Rule::new().keep(0, &[x]).keep(0, &[y]);
-    let history = "history full: more than 256 entries after this firing: rule 0\n7 0 ";
+    let history = "the history is full: more than 256 entries after this firing: rule 0\n7 0 ";
     ends("history", table(&[1], &[pairs]), counted(17), history);
 }
 
@@ -175,7 +176,7 @@ fn show_prints_the_first_and_the_last_steps_of_a_run_that_goes_on() {
     let behind = [
         "",
         "rule 0 fired 500000 times",
-        "step limit used up",
+        "the step limit is used up",
         "2 0 1000000 500000 500000 0",
     ];
     assert_eq!(lines[122..], behind);
@@ -195,12 +196,12 @@ fn show_says_why_a_run_is_refused() {
     let none = Vec::new;
     let many = "one head too many, a rule has at most 4: byte 91\n19 91 0 0 0 0\n";
     refused("heads", heads, none(), &[], many);
-    let cut = "record cut short, or no end record: byte 71\n17 71 0 0 0 0\n";
+    let cut = "a record cut short, or no end record: byte 71\n17 71 0 0 0 0\n";
     refused("cut", table_a()[..71].to_vec(), none(), &[], cut);
     let undeclared = goal(&[(0, &[7, 310]), (1, &[])]);
-    let fact = "bad goal fact: kind, symbol or a later place: goal fact 1\n33 1 0 0 0 0\n";
+    let fact = "a goal fact with a bad kind, symbol or later place: goal fact 1\n33 1 0 0 0 0\n";
     refused("fact", table_a(), undeclared, &[], fact);
-    let limit = "step limit above 20,000,000\n35 0 0 0 0 0\n";
+    let limit = "a step limit above 20,000,000\n35 0 0 0 0 0\n";
     refused("limit", table_a(), none(), &["20000001"], limit);
 }
 

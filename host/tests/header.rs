@@ -1,0 +1,174 @@
+//! The names of include/nadhirukh.h, all of them, have the values that the second engine goes by.
+
+use std::collections::BTreeMap;
+
+use nadhirukh_host::build::{
+    AT_LEAST, AT_MOST, DIFFERENCE, EQUAL, GREATER, LESS, PRODUCT, QUOTIENT, REMAINDER, SUM, UNEQUAL,
+};
+use nadhirukh_host::format::*;
+use nadhirukh_host::header::definitions;
+use nadhirukh_host::outcome::{Outcome, ENDINGS, REFUSALS};
+
+type Names = BTreeMap<String, usize>;
+
+/// Names with one word before them.
+fn named(before: &str, names: &[(&str, usize)]) -> Vec<(String, usize)> {
+    let name = |(name, value): &(&str, usize)| (format!("{}{}", before, name), *value);
+    names.iter().map(name).collect()
+}
+
+/// Names that count from 0.
+fn counted(before: &str, names: &[&str]) -> Vec<(String, usize)> {
+    let name = |(value, name): (usize, &&str)| (format!("{}{}", before, name), value);
+    names.iter().enumerate().map(name).collect()
+}
+
+fn words_of_a_result() -> Vec<(String, usize)> {
+    let names = [
+        "NUMBER",
+        "PLACE",
+        "STEPS",
+        "FIRINGS",
+        "IDENTIFIERS",
+        "STORED",
+    ];
+    assert_eq!(names.len(), Outcome::GOOD.numbers().len());
+    [
+        counted("", &names),
+        named("", &[("RESULT", names.len()), ("BOUND", 2)]),
+        counted("BOUND_", &["WEIGHT", "STEPS"]),
+    ]
+    .concat()
+}
+
+/// In document 01's order, which is that of the numbers.
+fn numbers() -> Vec<(String, usize)> {
+    let names = [
+        "DONE",
+        "FAILED",
+        "STEP_LIMIT",
+        "GUARD_UNDEFINED",
+        "BODY_UNDEFINED",
+        "STORE_FULL",
+        "STACK_FULL",
+        "HISTORY_FULL",
+        "UNKNOWN_KIND",
+        "CUT_SHORT",
+        "OUT_OF_ORDER",
+        "ONE_TOO_MANY",
+        "BAD_FIELD",
+        "NO_HEAD",
+        "VARIABLE_IN_NO_HEAD",
+        "BYTES_AFTER_END",
+        "GOAL_CUT",
+        "BAD_GOAL_FACT",
+        "GOAL_TOO_LONG",
+        "LIMIT_TOO_HIGH",
+        "ANSWER_TOO_SHORT",
+        "WEIGHT_COUNT",
+        "ZERO_WEIGHT",
+        "NO_WEIGHT_LOST",
+    ];
+    let numbers = ENDINGS.iter().chain(&REFUSALS);
+    assert_eq!(names.len(), numbers.clone().count());
+    let name = |(name, number): (&&str, &u32)| (name.to_string(), *number as usize);
+    names.iter().zip(numbers).map(name).collect()
+}
+
+fn limits() -> Vec<(String, usize)> {
+    let names = [
+        ("MAX_TABLE", LONGEST_TABLE),
+        ("MAX_SYMBOLS", MAX_SYMBOLS),
+        ("MAX_RULES", MAX_RULES),
+        ("MAX_GOAL_FACTS", MAX_GOAL),
+        ("MAX_GOAL", MAX_GOAL * GOAL_RECORD_LEN),
+        ("MAX_STORED", STORE),
+        ("MAX_LIMIT", MAX_LIMIT as usize),
+        ("MIN_ANSWER", ANSWER_LEN),
+    ];
+    named("", &names)
+}
+
+fn kinds() -> Vec<(String, usize)> {
+    let names = [
+        ("SYMBOL", SYMBOL),
+        ("RULE", RULE),
+        ("KEPT_HEAD", KEPT),
+        ("REMOVED_HEAD", REMOVED),
+        ("GUARD", GUARD),
+        ("BODY_FACT", BODY_FACT),
+        ("BODY_FAIL", BODY_FAIL),
+        ("END", END),
+        ("GOAL_FACT", GOAL_FACT),
+        ("STORED_FACT", STORED_FACT),
+    ];
+    named(
+        "KIND_",
+        &names.map(|(name, kind)| (name, usize::from(kind))),
+    )
+}
+
+fn slots_and_guards() -> Vec<(String, usize)> {
+    let operations = [
+        ("ALONE", 0),
+        ("SUM", SUM),
+        ("DIFFERENCE", DIFFERENCE),
+        ("PRODUCT", PRODUCT),
+        ("QUOTIENT", QUOTIENT),
+        ("REMAINDER", REMAINDER),
+    ];
+    let comparators = [
+        ("EQUAL", EQUAL),
+        ("UNEQUAL", UNEQUAL),
+        ("LESS", LESS),
+        ("AT_MOST", AT_MOST),
+        ("GREATER", GREATER),
+        ("AT_LEAST", AT_LEAST),
+    ];
+    let byte = |(name, byte): (&'static str, u8)| (name, usize::from(byte));
+    [
+        counted("TAG_", &["UNUSED", "CONSTANT", "VARIABLE"]),
+        named("OPERATION_", &operations.map(byte)),
+        named("COMPARATOR_", &comparators.map(byte)),
+    ]
+    .concat()
+}
+
+/// Behind the kind a goal fact has its symbol and four arguments; a stored fact has an identifier of
+/// four bytes before these.
+fn parts_of_facts() -> Vec<(String, usize)> {
+    let goal = [("LEN", GOAL_RECORD_LEN), ("SYMBOL", 1), ("ARGUMENTS", 2)];
+    let stored = [
+        ("LEN", STORED_RECORD_LEN),
+        ("IDENTIFIER", 1),
+        ("SYMBOL", 1 + 4),
+        ("ARGUMENTS", 2 + 4),
+    ];
+    [named("GOAL_FACT_", &goal), named("STORED_FACT_", &stored)].concat()
+}
+
+#[test]
+fn every_name_has_its_value() {
+    let mut found: Names = BTreeMap::new();
+    for definition in definitions() {
+        let before = found.insert(definition.name.to_string(), definition.value);
+        assert_eq!(before, None, "{} is defined twice", definition.name);
+    }
+    assert!(found.remove("VERSION").is_some());
+    let wanted = [
+        words_of_a_result(),
+        numbers(),
+        limits(),
+        kinds(),
+        slots_and_guards(),
+        parts_of_facts(),
+    ];
+    assert_eq!(found, wanted.concat().into_iter().collect::<Names>());
+}
+
+#[test]
+fn every_number_and_nothing_else_says_what_its_place_is() {
+    let told = definitions().filter(|definition| definition.ending().is_some());
+    let told: Vec<u32> = told.map(|definition| definition.value as u32).collect();
+    assert_eq!(told, [&ENDINGS[..], &REFUSALS[..]].concat());
+}
