@@ -10,10 +10,14 @@ fn main() {
     }
     let package = env::var("CARGO_MANIFEST_DIR").expect("cargo names the package's folder");
     let folder = Path::new(&package).join("../target/staticlib");
+    let archive = folder.join("libgateway.a");
     println!("cargo:rustc-link-search=native={}", folder.display());
     println!("cargo:rustc-link-lib=static=gateway");
-    println!(
-        "cargo:rerun-if-changed={}",
-        folder.join("libgateway.a").display()
-    );
+    println!("cargo:rerun-if-changed={}", archive.display());
+    if !archive.exists() {
+        println!(
+            "cargo:warning=there is no {}: `make lib` writes it",
+            archive.display()
+        );
+    }
 }
