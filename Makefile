@@ -20,7 +20,7 @@ lib:
 	@bash -c '. scripts/testing.sh && proving lib.log staticlib gateway' lib
 	@echo 'to link: scripts/x86 cc -Iinclude PROGRAM.c target/staticlib/libgateway.a -o PROGRAM'
 	@echo 'to run:  scripts/x86 ./PROGRAM'
-	@[ "$$(uname -m)" != x86_64 ] || echo 'here cc and ./PROGRAM alone do as well'
+	@[ "$$(uname -m)" != x86_64 ] || echo 'this machine is x86-64, so cc and ./PROGRAM alone do as well'
 
 # The machine stack of the calls, over the stored cases, and the size of their code.
 memory:
