@@ -76,6 +76,15 @@ pub fn make_folder(path: &Path) -> io::Result<()> {
     fs::create_dir_all(path).map_err(|error| named(path, error))
 }
 
+/// Sees that a program is there, if it is named by its path. Starting it would tell as well, but not
+/// under every emulator.
+pub fn find(program: &str) -> io::Result<()> {
+    if program.contains('/') {
+        fs::metadata(program).map_err(|error| named(program, error))?;
+    }
+    Ok(())
+}
+
 /// An error with the file, folder or program that it is about.
 pub fn named(path: impl AsRef<Path>, error: io::Error) -> io::Error {
     let message = format!("{}: {}", path.as_ref().display(), error);

@@ -236,7 +236,8 @@ fn a_file_that_fails_is_named() {
     let inside = path("missing/cases-").to_string_lossy().to_string();
     refuses(COMPARE, &[&missing, "9", "1", "cat"], 1, &[&inside]);
     let folder = env!("CARGO_TARGET_TMPDIR");
-    refuses(COMPARE, &[folder, "9", "1", &missing], 1, &[&missing]);
+    let words = [missing.as_str(), "No such file"];
+    refuses(COMPARE, &[folder, "9", "1", &missing], 1, &words);
     let full = file("full", b"no folder");
     for program in [LINES, VECTORS] {
         let ended = start(program, &[&full, "goal"]);

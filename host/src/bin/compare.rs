@@ -74,6 +74,7 @@ fn main() -> ExitCode {
 fn compare_all() -> Result<ExitCode, Trouble> {
     let usage = || tools::usage("compare FOLDER CASES SEED PROGRAM [ARGUMENT...]");
     let request = Request::read().ok_or_else(usage)?;
+    tools::find(&request.program[0])?;
     let progress = Mutex::new(Progress::new());
     let next = AtomicU64::new(0);
     let workers = thread::available_parallelism().map_or(1, usize::from);
