@@ -2,12 +2,14 @@
 
 use std::collections::BTreeMap;
 
+use nadhirukh_host::build::{alone, constant, goal_fact, table, variable};
 use nadhirukh_host::build::{
     AT_LEAST, AT_MOST, DIFFERENCE, EQUAL, GREATER, LESS, PRODUCT, QUOTIENT, REMAINDER, SUM, UNEQUAL,
 };
 use nadhirukh_host::format::*;
 use nadhirukh_host::header::definitions;
 use nadhirukh_host::outcome::{Outcome, ENDINGS, REFUSALS};
+use nadhirukh_host::reference;
 
 type Names = BTreeMap<String, usize>;
 
@@ -41,7 +43,8 @@ fn words_of_a_result() -> Vec<(String, usize)> {
     .concat()
 }
 
-/// In document 01's order, which is that of the numbers.
+/// In document 01's order, which is that of the numbers. Which name belongs to which is said here alone:
+/// the second engine has numbers for its endings, and no names.
 fn numbers() -> Vec<(String, usize)> {
     let names = [
         "DONE",
@@ -109,8 +112,14 @@ fn kinds() -> Vec<(String, usize)> {
 }
 
 fn slots_and_guards() -> Vec<(String, usize)> {
+    let expression = alone(constant(7));
+    let tags = [
+        ("UNUSED", expression[1 + SLOT_LEN]),
+        ("CONSTANT", constant(7)[0]),
+        ("VARIABLE", variable(7)[0]),
+    ];
     let operations = [
-        ("ALONE", 0),
+        ("ALONE", expression[0]),
         ("SUM", SUM),
         ("DIFFERENCE", DIFFERENCE),
         ("PRODUCT", PRODUCT),
@@ -127,22 +136,31 @@ fn slots_and_guards() -> Vec<(String, usize)> {
     ];
     let byte = |(name, byte): (&'static str, u8)| (name, usize::from(byte));
     [
-        counted("TAG_", &["UNUSED", "CONSTANT", "VARIABLE"]),
+        named("TAG_", &tags.map(byte)),
         named("OPERATION_", &operations.map(byte)),
         named("COMPARATOR_", &comparators.map(byte)),
     ]
     .concat()
 }
 
-/// Behind the kind a goal fact has its symbol and four arguments; a stored fact has an identifier of
-/// four bytes before these.
+/// Where the parts of a goal fact and of a stored one begin, found in the bytes of one that the second
+/// engine stores: its identifier is 1, its symbol 3 and its argument 7.
 fn parts_of_facts() -> Vec<(String, usize)> {
-    let goal = [("LEN", GOAL_RECORD_LEN), ("SYMBOL", 1), ("ARGUMENTS", 2)];
+    let fact = goal_fact(3, &[7]);
+    let mut answer = vec![0; ANSWER_LEN];
+    let outcome = reference::run(&table(&[0, 0, 0, 1], &[]), &fact, MAX_LIMIT, &mut answer);
+    assert_eq!((outcome.number, outcome.stored), (0, 1));
+    let at = |bytes: &[u8], part: u8| bytes.iter().position(|byte| *byte == part).unwrap();
+    let goal = [
+        ("LEN", fact.len()),
+        ("SYMBOL", at(&fact, 3)),
+        ("ARGUMENTS", at(&fact, 7)),
+    ];
     let stored = [
         ("LEN", STORED_RECORD_LEN),
-        ("IDENTIFIER", 1),
-        ("SYMBOL", 1 + 4),
-        ("ARGUMENTS", 2 + 4),
+        ("IDENTIFIER", at(&answer, 1)),
+        ("SYMBOL", at(&answer, 3)),
+        ("ARGUMENTS", at(&answer, 7)),
     ];
     [named("GOAL_FACT_", &goal), named("STORED_FACT_", &stored)].concat()
 }
