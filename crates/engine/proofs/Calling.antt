@@ -49,7 +49,11 @@ module _ (t g : List ℕ) (limit : ℕ) (buffer : List ℕ) {reading : Reading} 
     module _ (fine : judged ≡ Good) where
       pub limit-refused : 20000000 < limit → {r : CallResult} → r ≡ refusal 35 0 → Ran (runOf t g limit buffer) r buffer
       unfolding runOf
-      limit-refused h q = record { result = q ∙ sym (rw (verdict-is good, goal-is fine, lt-leb _ _ h) refl); answered = sym (rw (verdict-is good, goal-is fine, lt-leb _ _ h) refl) }
+      limit-refused h q = record {
+        result = q
+            ∙ sym (rw (verdict-is good, goal-is fine, lt-leb _ _ h) refl);
+        answered = sym (rw (verdict-is good, goal-is fine, lt-leb _ _ h) refl);
+      }
 
       module _ (legal : limit ≤ 20000000) where
         pub room-refused : length buffer < 2816 → {r : CallResult} → r ≡ refusal 36 0 → Ran (runOf t g limit buffer) r buffer
@@ -62,7 +66,8 @@ module _ (t g : List ℕ) (limit : ℕ) (buffer : List ℕ) {reading : Reading} 
         pub passed : 2816 ≤ length buffer → Passed t reading g limit buffer
         passed h = record { read = re; goodTable = good; goodGoal = sym je ∙ fine; legal = legal; roomy = h }
 
-        pub all-passed : 2816 ≤ length buffer → {r : CallResult} {after : List ℕ} → Ran (outputOf (run (tableOf t) (goalOf g) limit) buffer) r after → Ran (runOf t g limit buffer) r after
+        pub all-passed : 2816 ≤ length buffer → {r : CallResult} {after : List ℕ} → Ran (outputOf (run (tableOf t) (goalOf g) limit) buffer) r after
+            → Ran (runOf t g limit buffer) r after
         unfolding runOf
         all-passed h {r} {after} q = record {
           result = q .result ∙ sym (rw (verdict-is good, goal-is fine, le-leb _ _ legal, le-leb _ _ h) refl);
@@ -75,7 +80,8 @@ module _ {end : Ended} {r : CallResult} {s d : List ℕ} {a : List ℤ} (f : Fin
   number-is : {n : ℕ} → r .number ≡ n → end .result .number ≡ n
   number-is e = ap (λ (x : CallResult). x .number) (sym (f .result)) ∙ e
 
-  pub done-output : r .number ≡ 0 → {n : ℕ} → n ≡ r .stored → {after : List ℕ} → after ≡ answered (rowsFrom s d a 0 n) buffer → Ran (outputOf end buffer) r after
+  pub done-output : r .number ≡ 0 → {n : ℕ} → n ≡ r .stored → {after : List ℕ} → after ≡ answered (rowsFrom s d a 0 n) buffer
+      → Ran (outputOf end buffer) r after
   unfolding outputOf
   done-output e q w = record {
     result = f .result;

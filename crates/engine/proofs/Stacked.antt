@@ -1,12 +1,15 @@
 -- The stack's array against the definition's list: the first d entries, the last of them on top.
 use mathlib.Core.Path.{_≡_, refl, ap, _∙_}
+use mathlib.Core.Bool.{Bool, true, false}
 use mathlib.Core.List.{List, [], _∷_, _++_, map}
 use Prim.Native.Nat.{ℕ, zero, suc, _+_, _-_, _<_, _≤_}
 use native.Mathlib.Omega.{arith}
 use native.Mathlib.Numerals.{add-one}
+use lib.Dec.{ltb}
 use lib.IntN.{pos}
 use lib.ListN.{getD, set, drop, length, replicate, length-set, length-replicate}
 use lib.Seq.{getD-set-other, getD-set-same, drop-cons, drop-length}
+use borrow.Author.Tests.{ltb-true, ltb-false}
 use Rattle.model.specs.declared.Fact.{Fact}
 use Rattle.model.specs.declared.Item.the-variants.{Waiting}
 use Rattle.model.specs.declared.Entry.{Entry}
@@ -52,6 +55,22 @@ pub stack-empty : (es : List Entry) (d : ℕ) → d ≡ 0 → stackOf es d ≡ [
 unfolding stackOf
 stack-empty es d z = rw z
 
+-- what is left under the u lowest entries
+pub stack-drop : (es : List Entry) (u d : ℕ) → u ≤ d → drop (d - u) (stackOf es d) ≡ stackOf es u
+unfolding stackOf
+stack-drop es u zero l = let z : u ≡ 0 = omega arith in let q : zero - u ≡ 0 = omega arith in rw (q, z)
+stack-drop es u (suc d) l = go (ltb d u) refl (stack-drop es u d)
+  where
+    go : (x : Bool) → ltb d u ≡ x → (u ≤ d → drop (d - u) (stackOf es d) ≡ stackOf es u) → drop (suc d - u) (getD es d blank ∷ stackOf es d) ≡ stackOf es u
+    go true q lower =
+        let e : suc d ≡ u = omega (arith, ltb-true d u q) in
+        let z : suc d - u ≡ 0 = omega arith in
+        rw z (ap (stackOf es) e)
+    go false q lower =
+        let e : u ≤ d = ltb-false d u q in
+        let z : suc d - u ≡ suc (d - u) = omega arith in
+        rw z (lower e)
+
 -- ---- the goal, loaded from its last fact to its first
 
 pub record Loading (goal : List Fact) (es : List Entry) (i : ℕ) : Type 0 where
@@ -67,7 +86,8 @@ load-none goal x = record {
   same = let q : length goal - 0 ≡ length goal = omega arith in rw (q, drop-length);
 }
 
-pub load-more : (goal : List Fact) (es : List Entry) (i : ℕ) (e : Fact) → length goal ≤ 64 → i < length goal → Loading goal es i → (d : Fact) → e ≡ getD goal (length goal - 1 - i) d
+pub load-more : (goal : List Fact) (es : List Entry) (i : ℕ) (e : Fact) → length goal ≤ 64 → i < length goal → Loading goal es i → (d : Fact)
+    → e ≡ getD goal (length goal - 1 - i) d
     → Loading goal (set es i (waiting e)) (i + 1)
 load-more goal es i e s h l d q = record {
   within = omega arith;

@@ -31,7 +31,8 @@ none-made e = refl
 -- ---- a body fact: its arguments in turn, as long as each has a value
 
 module _ (b : Binding) (t : List ℕ) (p : ℕ) where
-  values-of : (v0 v1 v2 v3 : Value) → v0 ≡ expressionValue b (expressionAt t (p + 2)) → v1 ≡ expressionValue b (expressionAt t (p + 13)) → v2 ≡ expressionValue b (expressionAt t (p + 24)) → v3 ≡ expressionValue b (expressionAt t (p + 35))
+  values-of : (v0 v1 v2 v3 : Value) → v0 ≡ expressionValue b (expressionAt t (p + 2)) → v1 ≡ expressionValue b (expressionAt t (p + 13))
+      → v2 ≡ expressionValue b (expressionAt t (p + 24)) → v3 ≡ expressionValue b (expressionAt t (p + 35))
       → itemEntry b (bodyFactAt t p) ≡ waitingIf (symbolAt t (p + 1)) (consDefined v0 (consDefined v1 (consDefined v2 (consDefined v3 (some [])))))
   unfolding itemEntry bodyFactAt argumentValues
   values-of v0 v1 v2 v3 e0 e1 e2 e3 = rw (e0, e1, e2, e3)
@@ -53,7 +54,14 @@ module _ (b : Binding) (t : List ℕ) (p : ℕ) where
           undefined-3 u m = m ∙ sym (values-of v0 v1 v2 v3 e0 e1 e2 e3 ∙ rw (n0, n1, n2, u) refl)
 
           pub all-defined : {a3 : ℤ} → v3 ≡ Number a3 → {w x y z : ℤ} → w ≡ a0 → x ≡ a1 → y ≡ a2 → z ≡ a3
-              → madeOf (record { ok = true; entry = record { symbol = symbolAt t (p + 1); item = Waiting (record { symbol = symbolAt t (p + 1); a0 = w; a1 = x; a2 = y; a3 = z }) } }) ≡ itemEntry b (bodyFactAt t p)
+              → madeOf (record {
+                ok = true;
+                entry = record {
+                  symbol = symbolAt t (p + 1);
+                  item = Waiting
+                      (record { symbol = symbolAt t (p + 1); a0 = w; a1 = x; a2 = y; a3 = z });
+                };
+              }) ≡ itemEntry b (bodyFactAt t p)
           unfolding madeOf
           all-defined n3 w x y z = sym (values-of v0 v1 v2 v3 e0 e1 e2 e3 ∙ rw (n0, n1, n2, n3, w, x, y, z) refl)
 
@@ -119,7 +127,8 @@ module _ (b : Binding) (t : List ℕ) (at left : ℕ) (h : 0 < left) where
   first-and-rest = rw (items-first t at left h)
 
   module _ (m : Made) (me : madeOf m ≡ itemEntry b (itemAt t at)) where
-    first-made : m .ok ≡ true → {next : ℕ} → next ≡ behindItem t at → bodyEntries b (itemsFrom t at left) ≡ consEntry (some (m .entry)) (bodyEntries b (itemsFrom t next (left - 1)))
+    first-made : m .ok ≡ true → {next : ℕ} → next ≡ behindItem t at
+        → bodyEntries b (itemsFrom t at left) ≡ consEntry (some (m .entry)) (bodyEntries b (itemsFrom t next (left - 1)))
     unfolding madeOf
     first-made y q = first-and-rest ∙ rw (← me, y, q) refl
 
@@ -207,7 +216,8 @@ pub record Pushing (b : Binding) (t : List ℕ) (p n : ℕ) (es₀ : List Entry)
   pub same : after (segment es (under + left) (n - left)) (bodyEntries b (itemsFrom t at left)) ≡ bodyEntries b (itemsFrom t p n)
   pub below : stackOf es under ≡ stackOf es₀ under
 
-pub push-none : (b : Binding) (t : List ℕ) (p n : ℕ) (es : List Entry) (under : ℕ) → length es ≡ 256 → under + n ≤ 256 → ItemsLie t p n → Pushing b t p n es under es p n
+pub push-none : (b : Binding) (t : List ℕ) (p n : ℕ) (es : List Entry) (under : ℕ) → length es ≡ 256 → under + n ≤ 256 → ItemsLie t p n
+    → Pushing b t p n es under es p n
 unfolding segment
 push-none b t p n es under w h l =
     let e : n - n ≡ 0 = omega arith in
@@ -222,7 +232,8 @@ module _ {b : Binding} {t : List ℕ} {p n : ℕ} {es₀ : List Entry} {under : 
     pushed-reads = first-reads t at left (r .lies) h
 
     -- an entry at the place below those that are written
-    segment-more : (e : Entry) → segment (set es (under + (left - 1)) e) (under + (left - 1)) (n - (left - 1)) ≡ segment es (under + left) (n - left) ++ (e ∷ [])
+    segment-more : (e : Entry)
+        → segment (set es (under + (left - 1)) e) (under + (left - 1)) (n - (left - 1)) ≡ segment es (under + left) (n - left) ++ (e ∷ [])
     segment-more e =
         let u : ℕ = under + (left - 1) in
         let k : n - (left - 1) ≡ suc (n - left) = omega (arith, r .within) in

@@ -9,6 +9,7 @@ use lib.IntN.{ℤ}
 use lib.ListN.{set, length}
 use Rattle.model.specs.declared.Entry.{Entry}
 use Rattle.model.specs.declared.Fact.{Fact}
+use Rattle.model.specs.declared.FactId.{FactId}
 use Rattle.model.specs.declared.Stored.{Stored}
 use Rattle.model.specs.declared.RuleShape.{RuleShape}
 use Rattle.model.specs.declared.Reading.{Reading}
@@ -19,6 +20,7 @@ use Rattle.model.specs.Reading.{readOf}
 use Rattle.model.specs.Table.{behindItem}
 use Rattle.model.specs.Goal.{goalVerdict}
 use Rattle.model.specs.Run.{Ended}
+use Rattle.model.specs.Steps.{without}
 use Rattle.model.specs.Calls.{RunOutput}
 use Rattle.places.specs.Listing.{Listed}
 use Rattle.search.specs.Views.{rowsFrom}
@@ -52,6 +54,22 @@ columnsOf s d a = record { symbols = s; ids = d; args = a }
 -- four arguments at row j
 abbrev pub four : List ℤ → ℕ → Fact → List ℤ
 four a j f = set (set (set (set a (4 * j) (f .a0)) (4 * j + 1) (f .a1)) (4 * j + 2) (f .a2)) (4 * j + 3) (f .a3)
+
+-- the arrays have their rows, 128 of them
+pub record Whole (c : Columns) : Type 0 where
+  pub symbolsLong : length (c .symbols) ≡ storeRoom
+  pub idsLong : length (c .ids) ≡ storeRoom
+  pub argsLong : length (c .args) ≡ 512
+
+-- the store: the first n rows
+abbrev pub storeOf : Columns → ℕ → List Stored
+storeOf c n = rowsFrom (c .symbols) (c .ids) (c .args) 0 n
+
+-- what leaving facts out in place leaves
+pub record Left (gone : List FactId) (n : ℕ) (c₀ c : Columns) (r : ℕ) : Type 0 where
+  pub rows : storeOf c r ≡ without gone (storeOf c₀ n)
+  pub fewer : r ≤ n
+  pub whole : Whole c
 
 -- a stored fact at row j
 unfoldable pub putAt : Columns → ℕ → Stored → Columns

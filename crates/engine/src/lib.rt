@@ -3,6 +3,7 @@ use model::Answer;
 use model::CallResult;
 use model::Entry;
 use model::Reading;
+use model::RuleNumber;
 use model::StepLimit;
 use model::Verdict;
 ghost use mathlib.Core.Path.{_≡_};
@@ -15,6 +16,7 @@ ghost use Rattle.engine.specs.Arrays.{Passed, Ran};
 
 pub mod bodies;
 pub mod columns;
+pub mod deciding;
 pub mod firing;
 pub mod steps;
 
@@ -22,6 +24,31 @@ pub mod steps;
 pub struct Made {
     pub ok: bool,
     pub entry: Entry,
+}
+
+// An instance that applies, and that stack and history have room for. What is chosen and bound stays in arrays.
+pub struct Instance {
+    pub rule: RuleNumber,
+    pub kept: usize,
+    pub heads: usize,
+    // where the body's items start, and how many they are
+    pub start: usize,
+    pub items: usize,
+    // how deep the stack is under the body
+    pub under: usize,
+}
+
+// What the top entry comes to, each with what is to be written.
+pub enum Decision {
+    // the waiting fact
+    Activate,
+    Drop,
+    // with the new top entry
+    Default(Entry),
+    Fire(Instance),
+    Fail,
+    // an ending without a step: its number and its place
+    Stop(u8, u8),
 }
 
 fn no_starts() -> [u16; 33]

@@ -39,28 +39,66 @@ refusal-requires-3 : tie.Need-refusal-requires-3
 refusal-requires-3 c κs = search needs
 
 returns : tie.Need-returns
-returns c = limit-refused _ _ _ _ (c .before .before .before .before .before .before .before .read .ensures) (c .before .before .before .before .before .enum-told .given .1) (c .before .before .before .before .check-goal .ensures) (c .before .before .enum-told2 .given .1) (c .before .if1 .taken) (c .refusal3 .ensures)
+returns c =
+    let at-if1 = c .before in
+    let at-enum-told2 = at-if1 .before in
+    let at-check-goal = at-enum-told2 .before .before in
+    let at-enum-told = at-check-goal .before in
+    let at-read = at-enum-told .before .before in
+    limit-refused _ _ _ _ (at-read .read .ensures) (at-enum-told .enum-told .given .1) (at-check-goal .check-goal .ensures)
+    (at-enum-told2 .enum-told2 .given .1) (at-if1 .if1 .taken) (c .refusal3 .ensures)
 
 refusal-requires-4 : tie.Need-refusal-requires-4
 refusal-requires-4 c κs = search needs
 
 returns-2 : tie.Need-returns-2
-returns-2 c = room-refused _ _ _ _ (c .before .before .before .before .before .before .before .before .read .ensures) (c .before .before .before .before .before .before .enum-told .given .1) (c .before .before .before .before .before .check-goal .ensures) (c .before .before .before .enum-told2 .given .1) (c .before .before .if1 .left) (c .before .if2 .taken) (c .refusal4 .ensures)
+returns-2 c =
+    let at-if2 = c .before in
+    let at-if1 = at-if2 .before in
+    let at-enum-told2 = at-if1 .before in
+    let at-check-goal = at-enum-told2 .before .before in
+    let at-enum-told = at-check-goal .before in
+    let at-read = at-enum-told .before .before in
+    room-refused _ _ _ _ (at-read .read .ensures) (at-enum-told .enum-told .given .1) (at-check-goal .check-goal .ensures)
+    (at-enum-told2 .enum-told2 .given .1) (at-if1 .if1 .left) (at-if2 .if2 .taken) (c .refusal4 .ensures)
 
 run-passed-requires : tie.Need-run-passed-requires
-run-passed-requires c κs = passed _ _ _ _ (c .before .before .before .before .before .before .before .before .read .ensures) (c .before .before .before .before .before .before .enum-told .given .1) (c .before .before .before .before .before .check-goal .ensures) (c .before .before .before .enum-told2 .given .1) (c .before .before .if1 .left) (c .before .if2 .left)
+run-passed-requires c κs =
+    let at-if2 = c .before in
+    let at-if1 = at-if2 .before in
+    let at-enum-told2 = at-if1 .before in
+    let at-check-goal = at-enum-told2 .before .before in
+    let at-enum-told = at-check-goal .before in
+    let at-read = at-enum-told .before .before in
+    passed _ _ _ _ (at-read .read .ensures) (at-enum-told .enum-told .given .1) (at-check-goal .check-goal .ensures) (at-enum-told2 .enum-told2 .given .1)
+    (at-if1 .if1 .left) (at-if2 .if2 .left)
 
 returns-3 : tie.Need-returns-3
 returns-3 c = table-refused _ _ _ _ (c .before .before .before .before .read .ensures) (c .before .before .verdict .given .1) (c .refusal .ensures)
 
 returns-4 : tie.Need-returns-4
-returns-4 c = goal-refused _ _ _ _ (c .before .before .before .before .before .before .before .read .ensures) (c .before .before .before .before .before .enum-told .given .1) (c .before .before .before .before .check-goal .ensures) (c .before .before .judged .given .1) (c .refusal2 .ensures)
+returns-4 c =
+    let at-judged = c .before .before in
+    let at-check-goal = at-judged .before .before in
+    let at-enum-told = at-check-goal .before in
+    let at-read = at-enum-told .before .before in
+    goal-refused _ _ _ _ (at-read .read .ensures) (at-enum-told .enum-told .given .1) (at-check-goal .check-goal .ensures) (at-judged .judged .given .1)
+    (c .refusal2 .ensures)
 
 same-length : tie.Need-same-length
 same-length c = search needs
 
 returns-5 : tie.Need-returns-5
-returns-5 c = all-passed _ _ _ _ (c .before .before .before .before .before .before .before .before .before .before .before .read .ensures) (c .before .before .before .before .before .before .before .before .before .enum-told .given .1) (c .before .before .before .before .before .before .before .before .check-goal .ensures) (c .before .before .before .before .before .before .enum-told2 .given .1) (c .before .before .before .before .before .if1 .left) (c .before .before .before .before .if2 .left) (c .before .before .run-passed .ensures)
+returns-5 c =
+    let at-run-passed = c .before .before in
+    let at-if2 = at-run-passed .before .before in
+    let at-if1 = at-if2 .before in
+    let at-enum-told2 = at-if1 .before in
+    let at-check-goal = at-enum-told2 .before .before in
+    let at-enum-told = at-check-goal .before in
+    let at-read = at-enum-told .before .before in
+    all-passed _ _ _ _ (at-read .read .ensures) (at-enum-told .enum-told .given .1) (at-check-goal .check-goal .ensures)
+    (at-enum-told2 .enum-told2 .given .1) (at-if1 .if1 .left) (at-if2 .if2 .left) (at-run-passed .run-passed .ensures)
 
 pub run-spec : {M : Type 1} → statement M
 run-spec =

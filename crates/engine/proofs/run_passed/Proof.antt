@@ -34,13 +34,21 @@ cast-n : tie.Need-cast-n
 cast-n c = search needs
 
 write-answer-requires : tie.Need-write-answer-requires
-write-answer-requires c κs = answer-fits (c .before .before .before .before .before .before .before .take .ensures) (c .before .before .before .before .before .before .before .before .before .before .before .before .before .before .before .before .before .before .before .before .before .before .before .before .before .before .before .pre .roomy) refl
+write-answer-requires c κs =
+    let at-take = c .before .before .before .before .before .before .before in
+    let at-pre = at-take .before .before .before .before .before .before .before .before .before .before .before .before .before .before .before .before
+    .before .before .before .before in
+    answer-fits (at-take .take .ensures) (at-pre .pre .roomy) refl
 
 same-length : tie.Need-same-length
 same-length c = search needs
 
 returns : tie.Need-returns
-returns c = done-output (c .before .before .before .before .before .before .before .before .before .before .take .ensures) _ (c .before .before .before .before .before .before .before .before .if1 .taken) refl (c .before .before .write-answer .ensures)
+returns c =
+    let at-write-answer = c .before .before in
+    let at-if1 = at-write-answer .before .before .before .before .before .before in
+    let at-take = at-if1 .before .before in
+    done-output (at-take .take .ensures) _ (at-if1 .if1 .taken) refl (at-write-answer .write-answer .ensures)
 
 returns-2 : tie.Need-returns-2
 returns-2 c = other-output (c .before .before .take .ensures) _ (c .if1 .left)

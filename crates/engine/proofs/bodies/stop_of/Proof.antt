@@ -28,10 +28,12 @@ loop-less : tie.Need-loop-less Inv-loop μ-loop
 loop-less c = search needs
 
 loop-again : tie.Need-loop-again Inv-loop μ-loop
-loop-again c = judge-more (c .before .before .before .before .loop .inv) (c .before .before .before .loop-test .taken) _ (c .before .item-entry .ensures) (c .if1 .taken) (c .before .before .behind-item .ensures)
+loop-again c = judge-more (c .before .before .before .before .loop .inv) (c .before .before .before .loop-test .taken) _ (c .before .item-entry .ensures)
+    (c .if1 .taken) (c .before .before .behind-item .ensures)
 
 returns : tie.Need-returns Inv-loop μ-loop
-returns c = judge-stops (c .before .before .before .before .loop .inv) (c .before .before .before .loop-test .taken) _ (c .before .item-entry .ensures) (c .if1 .left)
+returns c = judge-stops (c .before .before .before .before .loop .inv) (c .before .before .before .loop-test .taken) _ (c .before .item-entry .ensures)
+    (c .if1 .left)
 
 returns-2 : tie.Need-returns-2 Inv-loop μ-loop
 returns-2 c = judge-done (c .before .loop .inv) (c .loop-test .left)

@@ -1,5 +1,5 @@
 -- `engine::columns::put` meets its contract: the six stores are those of the definition of a row.
-use Rattle.engine.proofs.Rows.{put-is}
+use Rattle.engine.proofs.Stock.{put-is}
 use borrow.Author.Needs.{needs}
 use Rattle.engine.proofs.columns.put.Statement.{statement}
 use Rattle.engine.proofs.columns.put.Tie as tie

@@ -7,7 +7,8 @@ use Prim.Native.Nat.{ℕ, _<_, _-_}
 use native.Mathlib.Omega.{arith}
 use borrow.Fn.Kinds.{In}
 use borrow.Fn.PlainCycle.{Measures, is, falls, and}
-use Rattle.search.proofs.Seeking.{Trying, tried-out, passed-over, no-match, found-nothing, found-applies, found-stuck, from-few, place-few, some-left, seat-back, ready-judge, judged-last, head-in, tries, ready-next, chosen-held}
+use Rattle.search.proofs.Seeking.{Trying, tried-out, passed-over, no-match, found-nothing, found-applies, found-stuck, from-few, place-few, some-left}
+use Rattle.search.proofs.Seeking.{seat-back, ready-judge, judged-last, head-in, tries, ready-next, chosen-held}
 use Rattle.search.proofs.partners.seek.Reads as seek
 use Rattle.search.proofs.partners.seek.Kinds as seek-kinds
 use Rattle.search.proofs.partners.+seek.Lts-seek as seek-lts
@@ -58,33 +59,139 @@ pub +seek-spec : {M : Type 1} → statement M
     (λ c. search (place-few, needs))
     (λ c. search (place-few, needs))
     (λ c κs. from-few (c .before .before .before .before .pre .1))
-    (λ c κs. ready-judge (c .before .before .before .before .before .before .before .before .before .pre .1) refl (c .before .before .before .before .partner-from .ensures) (c .before .before .before .if1 .taken))
-    (λ c. judged-last (c .before .before .before .before .before .before .before .before .before .before .pre .1) refl (c .before .before .before .before .before .partner-from .ensures) (c .before .before .before .before .if1 .taken) _ _ _ (c .judge .ensures))
+    (λ c κs.
+    let at-if1 = c .before .before .before in
+    let at-partner-from = at-if1 .before in
+    let at-pre = at-partner-from .before .before .before .before .before in
+    ready-judge (at-pre .pre .1) refl (at-partner-from .partner-from .ensures) (at-if1 .if1 .taken))
+    (λ c.
+    let at-if1 = c .before .before .before .before in
+    let at-partner-from = at-if1 .before in
+    let at-pre = at-partner-from .before .before .before .before .before in
+    judged-last (at-pre .pre .1) refl (at-partner-from .partner-from .ensures) (at-if1 .if1 .taken) _ _ _ (c .judge .ensures))
     (λ c. search needs)
     (λ c. search needs)
-    (λ c. omega (arith, some-left (c .before .before .before .before .before .before .before .before .pre .1) refl (c .before .before .before .partner-from .ensures) (c .before .before .if1 .left), c .before .before .before .before .before .before .before .before .pre .1 .fewHeads))
-    (λ c. omega (arith, head-in (c .before .before .before .before .before .before .before .before .pre .1) refl (c .before .before .before .partner-from .ensures) (c .before .before .if1 .left)))
+    (λ c.
+    let at-if1 = c .before .before in
+    let at-partner-from = at-if1 .before in
+    let at-pre = at-partner-from .before .before .before .before .before in
+    omega (arith, some-left (at-pre .pre .1) refl (at-partner-from .partner-from .ensures) (at-if1 .if1 .left), at-pre .pre .1 .fewHeads))
+    (λ c.
+    let at-if1 = c .before .before in
+    let at-partner-from = at-if1 .before in
+    let at-pre = at-partner-from .before .before .before .before .before in
+    omega (arith, head-in (at-pre .pre .1) refl (at-partner-from .partner-from .ensures) (at-if1 .if1 .left)))
     (λ c. search needs)
-    (λ c. omega (arith, some-left (c .before .before .before .before .before .before .before .before .pre .1) refl (c .before .before .before .partner-from .ensures) (c .before .before .if1 .left), c .before .before .before .before .before .before .before .before .pre .1 .fewHeads))
-    (λ c κs. head-in (c .before .before .before .before .before .before .before .before .before .before .pre .1) refl (c .before .before .before .before .before .partner-from .ensures) (c .before .before .before .before .if1 .left))
-    (λ c. tries (c .before .before .before .before .before .before .before .before .before .before .before .pre .1) refl (c .before .before .before .before .before .before .partner-from .ensures) (c .before .before .before .before .before .if1 .left))
+    (λ c.
+    let at-if1 = c .before .before in
+    let at-partner-from = at-if1 .before in
+    let at-pre = at-partner-from .before .before .before .before .before in
+    omega (arith, some-left (at-pre .pre .1) refl (at-partner-from .partner-from .ensures) (at-if1 .if1 .left), at-pre .pre .1 .fewHeads))
+    (λ c κs.
+    let at-if1 = c .before .before .before .before in
+    let at-partner-from = at-if1 .before in
+    let at-pre = at-partner-from .before .before .before .before .before in
+    head-in (at-pre .pre .1) refl (at-partner-from .partner-from .ensures) (at-if1 .if1 .left))
+    (λ c.
+    let at-if1 = c .before .before .before .before .before in
+    let at-partner-from = at-if1 .before in
+    let at-pre = at-partner-from .before .before .before .before .before in
+    tries (at-pre .pre .1) refl (at-partner-from .partner-from .ensures) (at-if1 .if1 .left))
     (λ c. search needs)
     (λ c κs. search needs)
-    (λ c κs. (head-in (c .before .before .before .before .before .before .before .before .before .before .before .before .before .before .before .before .before .before .before .before .pre .1) refl (c .before .before .before .before .before .before .before .before .before .before .before .before .before .before .before .partner-from .ensures) (c .before .before .before .before .before .before .before .before .before .before .before .before .before .before .if1 .left), (search needs, chosen-held (c .before .before .before .before .before .before .before .before .before .before .before .before .before .before .before .before .before .before .before .before .pre .1) refl (c .before .before .before .before .before .before .before .before .before .before .before .before .before .before .before .partner-from .ensures) (c .before .before .before .before .before .before .before .before .before .before .before .before .before .before .if1 .left) _ (c .before .before .before .before .before .before .before .before .loop .inv .whole))))
-    (λ c. search (c .before .before .before .before .before .before .before .before .before .before .before .before .before .before .before .before .before .before .before .before .before .before .pre .1 .fewStored, needs))
-    (λ c. search (c .before .before .before .before .before .before .before .before .before .before .before .before .before .before .before .before .before .before .before .before .before .before .pre .1 .fewStored, needs))
-    (λ c. omega (arith, c .before .before .before .before .before .before .before .before .before .before .before .loop .inv .more, c .before .before .before .before .before .before .before .before .before .before .before .before .before .before .before .before .before .before .before .before .before .before .before .pre .1 .fewHeads))
-    (λ c. omega (arith, c .before .before .before .before .before .before .before .before .before .before .before .loop .inv .more, c .before .before .before .before .before .before .before .before .before .before .before .before .before .before .before .before .before .before .before .before .before .before .before .pre .1 .fewHeads, c .before .before .before .before .before .before .before .before .before .before .before .loop .inv .whole))
-    (λ c κs. (search (c .before .before .before .before .before .before .before .before .before .before .before .before .before .before .before .before .before .before .before .before .before .before .before .before .before .before .pre .0, needs), ready-next (c .before .before .before .before .before .before .before .before .before .before .before .before .before .before .before .before .before .before .before .before .before .before .before .before .before .before .pre .1) refl (c .before .before .before .before .before .before .before .before .before .before .before .before .before .before .before .before .before .before .before .before .before .partner-from .ensures) (c .before .before .before .before .before .before .before .before .before .before .before .before .before .before .before .before .before .before .before .before .if1 .left) _ _ (c .before .before .before .before .before .before .before .before .before .before .before .before .before .before .loop .inv .whole) (c .before .before .before .before .before .before .before .before .before .before .before .before .before .before .loop .inv .kept)))
+    (λ c κs. (
+      let at-if1 = c .before .before .before .before .before .before .before .before .before .before .before .before .before .before in
+          let at-partner-from = at-if1 .before in
+          head-in (at-partner-from .before .before .before .before .before .pre .1) refl (at-partner-from .partner-from .ensures) (at-if1 .if1 .left),
+      (
+        search needs,
+        let at-loop = c .before .before .before .before .before .before .before .before in
+            let at-if1 = at-loop .before .before .before .before .before .before in let at-partner-from = at-if1 .before in
+            chosen-held (at-partner-from .before .before .before .before .before .pre .1) refl (at-partner-from .partner-from .ensures)
+            (at-if1 .if1 .left) _ (at-loop .loop .inv .whole),
+      ),
+    ))
+    (λ c. search (
+      c .before .before .before .before .before .before .before .before .before .before .before .before .before .before .before .before .before
+          .before .before .before .before .before .pre .1 .fewStored,
+      needs,
+    ))
+    (λ c. search (
+      c .before .before .before .before .before .before .before .before .before .before .before .before .before .before .before .before .before
+          .before .before .before .before .before .pre .1 .fewStored,
+      needs,
+    ))
+    (λ c.
+    let at-loop = c .before .before .before .before .before .before .before .before .before .before .before in
+    let at-pre = at-loop .before .before .before .before .before .before .before .before .before .before .before .before in
+    omega (arith, at-loop .loop .inv .more, at-pre .pre .1 .fewHeads))
+    (λ c.
+    let at-loop = c .before .before .before .before .before .before .before .before .before .before .before in
+    let at-pre = at-loop .before .before .before .before .before .before .before .before .before .before .before .before in
+    omega (arith, at-loop .loop .inv .more, at-pre .pre .1 .fewHeads, at-loop .loop .inv .whole))
+    (λ c κs. (
+      search (
+        c .before .before .before .before .before .before .before .before .before .before .before .before .before .before .before .before .before
+            .before .before .before .before .before .before .before .before .before .pre .0,
+        needs,
+      ),
+      let at-loop = c .before .before .before .before .before .before .before .before .before .before .before .before .before .before in
+          let at-if1 = at-loop .before .before .before .before .before .before in
+          let at-partner-from = at-if1 .before in
+          ready-next (at-partner-from .before .before .before .before .before .pre .1) refl (at-partner-from .partner-from .ensures) (at-if1 .if1 .left) _ _
+          (at-loop .loop .inv .whole) (at-loop .loop .inv .kept),
+    ))
     (λ c. search needs)
-    (λ c. seat-back (c .before .before .before .before .before .before .before .before .before .before .before .before .before .before .before .before .before .before .before .before .before .before .before .before .before .before .before .before .before .pre .1) refl (c .before .before .before .before .before .before .before .before .before .before .before .before .before .before .before .before .before .before .before .before .before .before .before .before .partner-from .ensures) _ _ _ _ (found-applies _ _ _ _ _ _ _ _ _ _ (c .before .before .before .before .before .before .before .before .before .before .before .before .before .before .before .before .before .loop .inv) (c .before .before .before .before .before .before .before .before .before .before .before .before .before .before .before .before .loop-test .taken) _ _ _ (c .before .before .before .before .before .before .before .before .candidate .ensures) (c .before .before .before .before .before .before .before .if3 .taken) (c .before .before .before .before .before .before .before .before .before .before .before .before .before .before .before .before .before .before .before .before .before .before .before .before .before .before .before .before .before .pre .1 .fewHeads) (c .before .before .seek .ensures) (c .enum-told .given .1)))
+    (λ c.
+    let at-seek = c .before .before in
+    let at-if3 = at-seek .before .before .before .before .before in
+    let at-candidate = at-if3 .before in
+    let at-loop-test = at-candidate .before .before .before .before .before .before .before .before in
+    let at-loop = at-loop-test .before in
+    let at-partner-from = at-loop .before .before .before .before .before .before .before in
+    let at-pre = at-partner-from .before .before .before .before .before in
+    seat-back (at-pre .pre .1) refl (at-partner-from .partner-from .ensures) _ _ _ _
+    (found-applies _ _ _ _ _ _ _ _ _ _ (at-loop .loop .inv) (at-loop-test .loop-test .taken) _ _ _ (at-candidate .candidate .ensures)
+    (at-if3 .if3 .taken) (at-pre .pre .1 .fewHeads) (at-seek .seek .ensures) (c .enum-told .given .1)))
     (λ c. search needs)
-    (λ c. seat-back (c .before .before .before .before .before .before .before .before .before .before .before .before .before .before .before .before .before .before .before .before .before .before .before .before .before .before .before .before .before .pre .1) refl (c .before .before .before .before .before .before .before .before .before .before .before .before .before .before .before .before .before .before .before .before .before .before .before .before .partner-from .ensures) _ _ _ _ (found-stuck _ _ _ _ _ _ _ _ _ _ (c .before .before .before .before .before .before .before .before .before .before .before .before .before .before .before .before .before .loop .inv) (c .before .before .before .before .before .before .before .before .before .before .before .before .before .before .before .before .loop-test .taken) _ _ _ (c .before .before .before .before .before .before .before .before .candidate .ensures) (c .before .before .before .before .before .before .before .if3 .taken) (c .before .before .before .before .before .before .before .before .before .before .before .before .before .before .before .before .before .before .before .before .before .before .before .before .before .before .before .before .before .pre .1 .fewHeads) (c .before .before .seek .ensures) (c .enum-told2 .given .1) _))
+    (λ c.
+    let at-seek = c .before .before in
+    let at-if3 = at-seek .before .before .before .before .before in
+    let at-candidate = at-if3 .before in
+    let at-loop-test = at-candidate .before .before .before .before .before .before .before .before in
+    let at-loop = at-loop-test .before in
+    let at-partner-from = at-loop .before .before .before .before .before .before .before in
+    let at-pre = at-partner-from .before .before .before .before .before in
+    seat-back (at-pre .pre .1) refl (at-partner-from .partner-from .ensures) _ _ _ _
+    (found-stuck _ _ _ _ _ _ _ _ _ _ (at-loop .loop .inv) (at-loop-test .loop-test .taken) _ _ _ (at-candidate .candidate .ensures) (at-if3 .if3 .taken)
+    (at-pre .pre .1 .fewHeads) (at-seek .seek .ensures) (c .enum-told2 .given .1) _))
     (λ c. search needs)
     (λ c. search needs)
-    (λ c. found-nothing _ _ _ _ _ _ _ _ _ _ (c .before .before .before .before .before .before .before .before .before .before .before .before .before .before .before .before .before .loop .inv) (c .before .before .before .before .before .before .before .before .before .before .before .before .before .before .before .before .loop-test .taken) _ _ _ (c .before .before .before .before .before .before .before .before .candidate .ensures) (c .before .before .before .before .before .before .before .if3 .taken) (c .before .before .before .before .before .before .before .before .before .before .before .before .before .before .before .before .before .before .before .before .before .before .before .before .before .before .before .before .before .pre .1 .fewHeads) (c .before .before .seek .ensures) (c .enum-told3 .given .1))
+    (λ c.
+    let at-seek = c .before .before in
+    let at-if3 = at-seek .before .before .before .before .before in
+    let at-candidate = at-if3 .before in
+    let at-loop-test = at-candidate .before .before .before .before .before .before .before .before in
+    let at-loop = at-loop-test .before in
+    let at-pre = at-loop .before .before .before .before .before .before .before .before .before .before .before .before in
+    found-nothing _ _ _ _ _ _ _ _ _ _ (at-loop .loop .inv) (at-loop-test .loop-test .taken) _ _ _ (at-candidate .candidate .ensures) (at-if3 .if3 .taken)
+    (at-pre .pre .1 .fewHeads) (at-seek .seek .ensures) (c .enum-told3 .given .1))
     (λ c. search needs)
-    (λ c. no-match _ _ _ _ _ _ _ _ _ _ (c .before .before .before .before .before .before .before .before .before .before .loop .inv) (c .before .before .before .before .before .before .before .before .before .loop-test .taken) _ _ _ (c .before .candidate .ensures) (c .if3 .left))
+    (λ c.
+    let at-candidate = c .before in
+    let at-loop-test = at-candidate .before .before .before .before .before .before .before .before in
+    let at-loop = at-loop-test .before in
+    no-match _ _ _ _ _ _ _ _ _ _ (at-loop .loop .inv) (at-loop-test .loop-test .taken) _ _ _ (at-candidate .candidate .ensures) (c .if3 .left))
     (λ c. search needs)
-    (λ c. passed-over _ _ _ _ _ _ _ _ _ _ (c .before .before .before .loop .inv) (c .before .before .loop-test .taken) _ (c .before .before .before .before .probe .ensures) (c .before .passes .ensures) (c .if2 .left))
-    (λ c. seat-back (c .before .before .before .before .before .before .before .before .before .before .before .before .before .pre .1) refl (c .before .before .before .before .before .before .before .before .partner-from .ensures) _ _ _ _ (tried-out _ _ _ _ _ _ _ _ _ _ (c .before .loop .inv) (c .loop-test .left)))
+    (λ c.
+    let at-passes = c .before in
+    let at-loop-test = at-passes .before in
+    let at-loop = at-loop-test .before in
+    let at-probe = at-loop .before in
+    passed-over _ _ _ _ _ _ _ _ _ _ (at-loop .loop .inv) (at-loop-test .loop-test .taken) _ (at-probe .probe .ensures) (at-passes .passes .ensures)
+    (c .if2 .left))
+    (λ c.
+    let at-loop = c .before in
+    let at-partner-from = at-loop .before .before .before .before .before .before .before in
+    let at-pre = at-partner-from .before .before .before .before .before in
+    seat-back (at-pre .pre .1) refl (at-partner-from .partner-from .ensures) _ _ _ _ (tried-out _ _ _ _ _ _ _ _ _ _ (at-loop .loop .inv) (c .loop-test .left)))
