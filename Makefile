@@ -17,8 +17,8 @@ soak:
 
 # The static library for C on x86-64, and how to link it and run what it is linked into.
 lib:
-	@bash -c '. scripts/testing.sh && proving lib.log staticlib gateway' lib
-	@echo 'to link: scripts/x86 cc -Iinclude PROGRAM.c target/staticlib/libgateway.a -o PROGRAM'
+	@bash -c '. scripts/testing.sh && proving lib.log staticlib nadhirukh' lib
+	@echo 'to link: scripts/x86 cc -Iinclude PROGRAM.c target/staticlib/libnadhirukh.a -o PROGRAM'
 	@echo 'to run:  scripts/x86 ./PROGRAM'
 	@[ "$$(uname -m)" != x86_64 ] || echo 'this machine is x86-64, so cc and ./PROGRAM alone do as well'
 

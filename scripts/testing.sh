@@ -1,5 +1,8 @@
 # For scripts and tests to source: what they need beyond the toolchain, from Debian's packages, and what they do alike.
-# It defines functions and runs nothing.
+# It defines names and functions, and runs nothing.
+
+# The library for C, which make_library writes.
+library=target/staticlib/libnadhirukh.a
 
 # install_packages PACKAGE...: only root on Debian can.
 install_packages() {
@@ -71,9 +74,9 @@ quietly() {
     return 1
 }
 
-# Writes target/staticlib/libgateway.a.
+# Writes the library.
 make_library() {
-    quietly rt staticlib gateway
+    quietly rt staticlib nadhirukh
 }
 
 # proving LOG WORD...: rt with these words. What it says itself, a line for each crate as it is done, is shown; all that it prints goes
@@ -94,7 +97,7 @@ proving() {
 link_c() {
     local source=$1 program=$2
     shift 2
-    "$compiler" -std=c89 -pedantic-errors -Wall -Wextra -Werror -O2 -Iinclude "$@" "$source" target/staticlib/libgateway.a -o "$program"
+    "$compiler" -std=c89 -pedantic-errors -Wall -Wextra -Werror -O2 -Iinclude "$@" "$source" "$library" -o "$program"
 }
 
 # Says why it does not go on, and ends.

@@ -1,5 +1,5 @@
 /*
- * The stored cases of crates/vectors, read from the standard input. A case is its kind (C check, R run, W weigh, F find weights), five
+ * The stored cases of crates/call_cases, read from the standard input. A case is its kind (C check, R run, W weigh, F find weights), five
  * words of 32 bits (the lengths of table, goal and weights, the step limit, the length of the answer buffer), then table, goal and
  * weights; of F the weights are what the buffer holds before the call.
  */

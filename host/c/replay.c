@@ -1,6 +1,6 @@
 /*
- * Runs the stored cases of the standard input (crates/vectors/stdin) through the C interface and prints a line for each, as the
- * program of crates/vectors does: the lines expected are the same file. Every buffer is lent between guard bytes, and where a call
+ * Runs the stored cases of the standard input (crates/call_cases/stdin) through the C interface and prints a line for each, as the
+ * program of crates/call_cases does: the lines expected are the same file. Every buffer is lent between guard bytes, and where a call
  * touches what it may not, its line says so and the status is 1.
  */
 #include <stdio.h>

@@ -17,14 +17,14 @@
 //! - [`cases`]: random cases, good, damaged and near every limit.
 //! - [`verdict`]: everything that a call gives back for a case, and the reference's verdict.
 //! - [`stored`]: the form of stored cases, and the line that a program has to print for each.
-//! - `ffi`: the proved library through its C interface (feature `gateway`).
+//! - `ffi`: the proved library through its C interface (feature `library`).
 
 pub mod bench;
 pub mod build;
 pub mod cases;
 pub mod ending;
 pub mod example;
-#[cfg(feature = "gateway")]
+#[cfg(feature = "library")]
 pub mod ffi;
 pub mod format;
 pub mod header;

@@ -1,5 +1,5 @@
-//! The proved library against the reference, through the C interface (feature `gateway`).
-#![cfg(feature = "gateway")]
+//! The proved library against the reference, through the C interface (feature `library`).
+#![cfg(feature = "library")]
 
 use nadhirukh_host::cases::{any_case, edges, finding, Case};
 use nadhirukh_host::{ffi, verdict};

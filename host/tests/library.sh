@@ -32,14 +32,14 @@ have_runner || give_up "$missing"
 make_library || give_up "rt did not write the static library"
 
 replay() {
-    "${runner[@]}" "$made/replay" < crates/vectors/stdin > "$made/stdout" && cmp "$made/stdout" crates/vectors/stdout
+    "${runner[@]}" "$made/replay" < crates/call_cases/stdin > "$made/stdout" && cmp "$made/stdout" crates/call_cases/stdout
 }
 
 # link_cxx SOURCE PROGRAM: as link_c does, as C++. Not linked statically: Debian's cross compiler finds no static library of mathematics,
 # which each C++ program links.
 link_cxx() {
     "$cxx" -x c++ -std=c++98 -pedantic-errors -Wall -Wextra -Werror -O2 -Iinclude -I"$made" "$1" \
-        -x none target/staticlib/libgateway.a -o "$2"
+        -x none "$library" -o "$2"
 }
 
 # gateway PROGRAM: prints what is stored, and ends with status 0.
@@ -72,7 +72,7 @@ standards() {
 
 # The archive needs two functions of the C library and no other, as the header says.
 needs() {
-    "${compiler%gcc}nm" -u target/staticlib/libgateway.a | sed -n 's/^ *U //p' | sort -u | paste -sd ' ' > "$made/needs"
+    "${compiler%gcc}nm" -u "$library" | sed -n 's/^ *U //p' | sort -u | paste -sd ' ' > "$made/needs"
     echo "memcpy memset" | cmp - "$made/needs"
 }
 
@@ -99,7 +99,7 @@ watch() {
 }
 
 watch_replay() {
-    watch "$made/replay-bare" < crates/vectors/stdin > "$made/stdout" && cmp "$made/stdout" crates/vectors/stdout
+    watch "$made/replay-bare" < crates/call_cases/stdin > "$made/stdout" && cmp "$made/stdout" crates/call_cases/stdout
 }
 
 watch_gateway() {
@@ -109,7 +109,7 @@ watch_gateway() {
 # The second engine's test that links the library, so that the declarations for Rust are tried as those for C are.
 rust_links() {
     have_rust || { echo "library.sh: $missing"; return 1; }
-    (cd host && CARGO_TARGET_DIR="$OLDPWD/target/host" cargo test --quiet --offline --release -j1 --features gateway --test library) \
+    (cd host && CARGO_TARGET_DIR="$OLDPWD/target/host" cargo test --quiet --offline --release -j1 --features library --test library) \
         > "$made/log" 2>&1 && grep -q '^test result: ok. [1-9]' "$made/log" && return
     cat "$made/log"
     return 1

@@ -1,4 +1,4 @@
-//! The programs `vectors` and `show`.
+//! The programs `call_cases` and `show`.
 
 use std::fs;
 use std::path::{Path, PathBuf};
@@ -13,14 +13,14 @@ fn folder(name: &str) -> PathBuf {
     folder
 }
 
-/// Runs `vectors` for some groups: the cases and the lines.
-fn vectors(name: &str, groups: &[&str]) -> (Vec<u8>, String) {
+/// Runs `call_cases` for some groups: the cases and the lines.
+fn call_cases(name: &str, groups: &[&str]) -> (Vec<u8>, String) {
     let folder = folder(name);
-    let status = Command::new(env!("CARGO_BIN_EXE_vectors"))
+    let status = Command::new(env!("CARGO_BIN_EXE_call_cases"))
         .arg(&folder)
         .args(groups)
         .status();
-    assert!(status.expect("vectors starts").success());
+    assert!(status.expect("call_cases starts").success());
     let cases = fs::read(folder.join("stdin")).expect("the cases");
     let lines = fs::read_to_string(folder.join("stdout")).expect("the lines");
     (cases, lines)
@@ -51,8 +51,8 @@ fn cases_in(bytes: &[u8]) -> usize {
 }
 
 #[test]
-fn vectors_hold_every_number_often_and_stay_short() {
-    let (cases, lines) = vectors("all", &[]);
+fn call_cases_hold_every_number_often_and_stay_short() {
+    let (cases, lines) = call_cases("all", &[]);
     assert!(cases.len() < 1_500_000, "{} bytes", cases.len());
     assert_eq!(cases_in(&cases), lines.lines().count());
     assert!(count(&lines, "C") >= 450);
@@ -75,11 +75,11 @@ fn vectors_hold_every_number_often_and_stay_short() {
 }
 
 #[test]
-fn vectors_write_the_groups_asked_for_and_the_same_each_time() {
-    let (cases, lines) = vectors("goals", &["goal"]);
+fn call_cases_write_the_groups_asked_for_and_the_same_each_time() {
+    let (cases, lines) = call_cases("goals", &["goal"]);
     assert_eq!(count(&lines, "R"), lines.lines().count());
     assert!(lines.lines().all(|line| line.ends_with(" keeps")));
-    assert_eq!(vectors("goals", &["goal"]), (cases, lines));
+    assert_eq!(call_cases("goals", &["goal"]), (cases, lines));
 }
 
 #[test]

@@ -13,7 +13,7 @@ use nadhirukh_host::words;
 
 const SHOW: &str = env!("CARGO_BIN_EXE_show");
 const EXAMPLE: &str = env!("CARGO_BIN_EXE_example");
-const VECTORS: &str = env!("CARGO_BIN_EXE_vectors");
+const CALL_CASES: &str = env!("CARGO_BIN_EXE_call_cases");
 const LINES: &str = env!("CARGO_BIN_EXE_lines");
 const COMPARE: &str = env!("CARGO_BIN_EXE_compare");
 const SWI: &str = env!("CARGO_BIN_EXE_swi");
@@ -210,7 +210,7 @@ fn a_program_says_in_one_line_how_it_is_started() {
     for (program, usage) in [
         (SHOW, "usage: show FILE [LIMIT]"),
         (EXAMPLE, "usage: example FILE [N]"),
-        (VECTORS, "usage: vectors FOLDER [GROUP...]"),
+        (CALL_CASES, "usage: call_cases FOLDER [GROUP...]"),
         (LINES, "usage: lines FOLDER"),
         (COMPARE, "usage: compare FOLDER CASES SEED PROGRAM"),
         (SWI, "usage: swi FOLDER RUN.."),
@@ -223,7 +223,7 @@ fn a_program_says_in_one_line_how_it_is_started() {
     }
     refuses(SHOW, &["file", "1", "2"], 2, &["usage: show"]);
     refuses(EXAMPLE, &["file", "one"], 2, &["usage: example", "'one'"]);
-    refuses(VECTORS, &["folder", "all"], 2, &["check, goal, run"]);
+    refuses(CALL_CASES, &["folder", "all"], 2, &["check, goal, run"]);
     refuses(COMPARE, &["folder", "9", "first", "cat"], 2, &["usage"]);
 }
 
@@ -239,7 +239,7 @@ fn a_file_that_fails_is_named() {
     let words = [missing.as_str(), "No such file"];
     refuses(COMPARE, &[folder, "9", "1", &missing], 1, &words);
     let full = file("full", b"no folder");
-    for program in [LINES, VECTORS] {
+    for program in [LINES, CALL_CASES] {
         let ended = start(program, &[&full, "goal"]);
         assert_eq!(ended.status, Some(1));
         assert!(ended.said.contains(&full), "{}", ended.said);

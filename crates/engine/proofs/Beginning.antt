@@ -19,8 +19,8 @@ use Rattle.model.specs.Run.{Ended}
 use Rattle.model.proofs.Good.{GoodTable, good-table, GoodGoal, good-goal}
 use Rattle.model.proofs.Decoded.{goal-at, goal-length}
 use Rattle.model.specs.Table.{tableOf}
-use Rattle.places.specs.declared.Found.{Found}
-use Rattle.places.specs.Listing.{foundPlace}
+use Rattle.occurrences.specs.declared.Found.{Found}
+use Rattle.occurrences.specs.Listing.{foundPlace}
 use Rattle.engine.specs.Arrays.{Columns, columnsOf, Begun, Finished}
 use Rattle.engine.specs.Deciding.{placeOf, ruleFound, Asked}
 use Rattle.engine.proofs.Decides.{rule-in}

@@ -30,9 +30,9 @@ use Rattle.model.specs.Steps.{isRemoved, fired, Outcome, moves, fires, fails, s
 use Rattle.model.proofs.Good.{GoodTable, GoodRule, good-table}
 use Rattle.model.proofs.Decoded.{rule-at, rule-kept, rule-removed, rule-body, heads-none, heads-first, heads-length, places-few, PlaceShape, places-shape}
 use Rattle.model.proofs.Every.{every}
-use Rattle.places.specs.declared.Found.{Found as Lookup}
-use Rattle.places.specs.declared.Found.the-variants.{At, Nothing as Unplaced}
-use Rattle.places.specs.Listing.{foundPlace}
+use Rattle.occurrences.specs.declared.Found.{Found as Lookup}
+use Rattle.occurrences.specs.declared.Found.the-variants.{At, Nothing as Unplaced}
+use Rattle.occurrences.specs.Listing.{foundPlace}
 use Rattle.search.specs.declared.Outcome.{Outcome as Answer}
 use Rattle.search.specs.declared.Outcome.the-variants.{Applies, Nothing, UndefinedGuard}
 use Rattle.search.specs.Views.{idsOf, pastOf, firedAt, rowsFrom, foundAs, firstOfQuest, Posed, Answered}

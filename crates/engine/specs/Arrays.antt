@@ -22,7 +22,7 @@ use Rattle.model.specs.Goal.{goalVerdict}
 use Rattle.model.specs.Run.{Ended}
 use Rattle.model.specs.Steps.{without}
 use Rattle.model.specs.Calls.{RunOutput}
-use Rattle.places.specs.Listing.{Listed}
+use Rattle.occurrences.specs.Listing.{Listed}
 use Rattle.search.specs.Views.{rowsFrom}
 use Rattle.engine.specs.declared.Made.{Made}
 

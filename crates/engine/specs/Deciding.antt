@@ -25,9 +25,9 @@ use Rattle.model.specs.Reading.{readOf, noShape}
 use Rattle.model.specs.Table.{Table, tableOf, places, itemsFrom}
 use Rattle.model.specs.Search.{Fired, firedOf}
 use Rattle.model.specs.Steps.{State, noStored, bodyEntries, without, pruned, activated, dropped, Outcome, moves, fires, fails, stops}
-use Rattle.places.specs.declared.Found.{Found}
-use Rattle.places.specs.declared.Found.the-variants.{At, Nothing}
-use Rattle.places.specs.Listing.{foundPlace}
+use Rattle.occurrences.specs.declared.Found.{Found}
+use Rattle.occurrences.specs.declared.Found.the-variants.{At, Nothing}
+use Rattle.occurrences.specs.Listing.{foundPlace}
 use Rattle.search.specs.Views.{idsOf, Held}
 use Rattle.engine.specs.declared.Instance.{Instance}
 use Rattle.engine.specs.declared.Decision.{Decision}

@@ -11,14 +11,14 @@ use model::Occurrence;
 use model::RuleShape;
 use model::Stored;
 use model::Symbol;
-use places::Found;
+use occurrences::Found;
 use search::Outcome;
 use search::Quest;
 ghost use mathlib.Core.Path.{_≡_};
 ghost use mathlib.Core.Option.{some};
 ghost use Rattle.model.specs.Table.{tableOf};
 ghost use Rattle.model.specs.Steps.{noStored, activeEntry, atPlace, stepItem};
-ghost use Rattle.places.specs.Listing.{foundPlace, Listed};
+ghost use Rattle.occurrences.specs.Listing.{foundPlace, Listed};
 ghost use Rattle.search.specs.Views.{bindingOf, pastOf, rowsFrom};
 ghost use Rattle.engine.specs.Deciding.{placeOf, factOf, ruleFound, Tried, Asked, Decided};
 
@@ -37,7 +37,7 @@ pub fn place_of_entry(
     match item {
         Item::Waiting(fact) => Found::Nothing,
         Item::Active(id, occurrence) => {
-            places::place_of(t, first, rules, heads, e.symbol, occurrence)
+            occurrences::place_of(t, first, rules, heads, e.symbol, occurrence)
         }
         Item::Fail => Found::Nothing,
     }

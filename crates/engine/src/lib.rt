@@ -71,7 +71,7 @@ fn run_passed(t: &[u8], reading: Reading, goal: &[u8], limit: u32, answer: &mut 
     let mut first = no_starts();
     let mut rules = no_places();
     let mut heads = no_places();
-    places::list_occurrences(t, reading, &mut first, &mut rules, &mut heads);
+    occurrences::list_occurrences(t, reading, &mut first, &mut rules, &mut heads);
     let mut symbols = columns::no_symbols();
     let mut ids = columns::no_ids();
     let mut args = columns::no_args();

@@ -3,9 +3,9 @@
 use libc::STDIN_FILENO;
 use model::Answer;
 use model::CallResult;
-use text::put;
-use text::put_facts;
-use text::put_result;
+use printing::put;
+use printing::put_facts;
+use printing::put_result;
 
 const STEP_LIMIT: u32 = 1000000;
 
@@ -31,7 +31,7 @@ fn run_goal(table: &[u8], goal: &[u8]) {
 
 // "the table ends at its first end record"
 fn run_input(input: &[u8]) {
-    let end = input::table_end(input);
+    let end = run_input::table_end(input);
     run_goal(&input[0..end], &input[end..]);
 }
 

@@ -1,5 +1,5 @@
 //! `swi_time FOLDER`: for each example the goal that takes the most steps, timed on SWI-Prolog's
-//! CHR library and on the proved library (feature `gateway`), many times inside one process each.
+//! CHR library and on the proved library (feature `library`), many times inside one process each.
 //!
 //! Prints a line for each example: facts in the goal, steps, firings, the two times of a run in
 //! microseconds, and how many times as long SWI takes.

@@ -1,0 +1,28 @@
+-- `raise` meets its contract.
+use borrow.Author.Needs.{needs}
+use Rattle.finding_weights.proofs.Raising.{raise-none, raise-above, raise-to}
+use Rattle.finding_weights.proofs.raise.Statement.{statement}
+use Rattle.finding_weights.proofs.raise.Tie as tie
+
+pub raise-spec : {M : Type 1} → statement M
+raise-spec =
+    tie.close
+    (tie.spec
+    (λ c. search needs)
+    (λ c. search needs)
+    (λ c. search needs)
+    (λ c. search needs)
+    (λ c. search needs)
+    (λ c. search needs)
+    (λ c κs. search needs)
+    (λ c κs. search needs)
+    (λ c κs. search needs)
+    (λ c κs. search needs)
+    (λ c. search needs)
+    (λ c κs. search needs)
+    (λ c κs. search needs)
+    (λ c. search needs)
+    (λ c. search (raise-none, needs))
+    (λ c. search (raise-above, needs))
+    (λ c. search needs)
+    (λ c. search (raise-to, needs)))

@@ -1,7 +1,0 @@
--- `give` meets its contract: six words in their order, and the number. Assumes nothing.
-use mathlib.Core.Path.{refl}
-use Rattle.gateway.proofs.give.Statement.{statement}
-use Rattle.gateway.proofs.give.Tie as tie
-
-pub give-spec : {M : Type 1} → statement M
-give-spec = tie.close (tie.spec (λ c. record { words = refl; returned = refl }))

@@ -1,8 +1,0 @@
--- `nadhirukh_find_weights` meets its contract: what is given back is the library's own result. Assumes nothing.
-use borrow.Author.Needs.{needs}
-use Rattle.gateway.proofs.Gives.{find-given}
-use Rattle.gateway.proofs.nadhirukh_find_weights.Statement.{statement}
-use Rattle.gateway.proofs.nadhirukh_find_weights.Tie as tie
-
-pub nadhirukh-find-weights-spec : {M : Type 1} → statement M
-nadhirukh-find-weights-spec = tie.close (tie.spec (λ c κs. search needs) (λ c κs. search needs) (λ c. search needs) (λ c. search (find-given, needs)))

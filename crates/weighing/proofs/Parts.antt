@@ -1,0 +1,188 @@
+-- The parts of a rule and the facts of a goal, one after the other: what a turn of each counting loop adds. What is counted, with what is
+-- still to be counted, stays the whole.
+use Prim.Native.Nat.{ℕ, zero, suc, _+_, _-_, _*_, _/_, _<_, _≤_}
+use mathlib.Core.Path.{_≡_, refl, sym, ap, _∙_}
+use mathlib.Core.Bool.{Bool, true, false, cond}
+use mathlib.Core.Option.{none, some}
+use mathlib.Core.List.{List, [], _∷_}
+use native.Mathlib.Omega.{arith}
+use native.Mathlib.Numerals.{add-one}
+use lib.Dec.{eqb}
+use lib.ListN.{length, getD, drop, List·getD-eq-default, drop-of-length-le}
+use lib.Seq.{drop-cons}
+use borrow.Author.Tests.{eq-eqb, ne-eqb}
+use Rattle.model.specs.declared.Symbol.{Symbol}
+use Rattle.model.specs.Table.{headAt, headsFrom, isFact, bodyFactAt, itemsFrom}
+use Rattle.model.specs.Goal.{factAt, factsFrom, goalOf}
+use Rattle.model.specs.Weights.{weightIn, headsWeight, bodyWeight, bodyFacts, goalWeight, firstZero}
+use Rattle.model.proofs.Decoded.{heads-first, items-first, item-fact, item-fail, facts-first}
+use Rattle.model.proofs.Good.{behind-fact, behind-fail}
+use Rattle.weighing.specs.Views.{Counted, headsWith}
+
+-- `sum` is counted and `rest` is left: `left` parts from p on, each of at most `unit` and in at most `step` bytes
+pub record Left (unit step top far whole rest sum p left : ℕ) : Type 0 where
+  pub same : sum + rest ≡ whole
+  pub few : sum + unit * left ≤ top
+  pub near : p + step * left ≤ far
+
+pub ended : {unit step top far whole rest sum p left : ℕ} → Left unit step top far whole rest sum p left → rest ≡ 0 → Counted whole top sum
+ended l e = record { same = omega (arith, l .same); few = omega (arith, l .few) }
+
+-- ---- weights
+
+inside : (l : List ℕ) (i : ℕ) → i < length l → getD l i 0 ≡ getD l i 1
+inside [] i h = absurd (omega arith)
+inside (x ∷ l) zero h = refl
+inside (x ∷ l) (suc i) h = inside l i (omega arith)
+
+pub weight-given : (weights : List ℕ) (i : ℕ) → i < length weights → getD weights i 0 < 256 → Counted (getD weights i 1) 255 (getD weights i 0)
+weight-given weights i h b = record { same = inside weights i h; few = omega arith }
+
+pub weight-missing : (weights : List ℕ) (i : ℕ) → length weights ≤ i → Counted (getD weights i 1) 255 1
+weight-missing weights i h = record { same = sym (List·getD-eq-default weights 1 h); few = omega arith }
+
+-- the weights from k on
+pub zero-here : (k : ℕ) (l : List ℕ) → k < length l → getD l k 0 ≡ 0 → some k ≡ firstZero k (drop k l)
+unfolding firstZero
+zero-here k l h e = rw (drop-cons l k 0 h, e)
+
+pub zero-later : (k : ℕ) (l : List ℕ) → k < length l → (getD l k 0 ≡ 0 → ⊥) → firstZero k (drop k l) ≡ firstZero (k + 1) (drop (k + 1) l)
+unfolding firstZero
+zero-later k l h d = rw (drop-cons l k 0 h, add-one k) (go (getD l k 0) d)
+  where
+    go : (x : ℕ) → (x ≡ 0 → ⊥) → firstZero k (x ∷ drop (suc k) l) ≡ firstZero (suc k) (drop (suc k) l)
+    go zero d = absurd (d refl)
+    go (suc x) d = refl
+
+pub zero-never : (k : ℕ) (l : List ℕ) → length l ≤ k → none ≡ firstZero k (drop k l)
+unfolding firstZero
+zero-never k l h = rw (drop-of-length-le l {i = k} h)
+
+-- ---- heads
+
+module _ (t : List ℕ) where
+  module _ (weights : List ℕ) where
+    abbrev headsLeft : ℕ → ℕ → ℕ
+    headsLeft p n = headsWeight (weightIn weights) (headsFrom t p n)
+
+    heads-turn : (p n : ℕ) → 0 < n → headsLeft p n ≡ getD weights (getD t (p + 1) 0) 1 + headsLeft (p + 22) (n - 1)
+    unfolding headsWeight headAt
+    heads-turn p n h = rw (heads-first t p n h)
+
+    pub heads-none : (p n : ℕ) → n ≤ 0 → headsLeft p n ≡ 0
+    unfolding headsWeight headsFrom
+    heads-none p zero h = refl
+    heads-none p (suc n) h = absurd (omega arith)
+
+    pub head-weighed : {far whole sum p left b r : ℕ} → Left 255 22 1020 far whole (headsLeft p left) sum p left → 0 < left → b ≡ getD t (p + 1) 0
+        → Counted (getD weights b 1) 255 r → Left 255 22 1020 far whole (headsLeft (p + 22) (left - 1)) (sum + r) (p + 22) (left - 1)
+    head-weighed {p = p} {left} l h e c =
+        let x : _ ≡ getD weights (getD t (p + 1) 0) 1 = c .same ∙ ap (λ (b : ℕ). getD weights b 1) e in
+        record { same = omega (arith, l .same, heads-turn p left h, x); few = omega (arith, l .few, c .few); near = omega (arith, l .near) }
+
+  module _ (s : Symbol) where
+    abbrev withLeft : ℕ → ℕ → ℕ
+    withLeft p n = headsWith s (headsFrom t p n)
+
+    with-turn : (p n : ℕ) (x : Bool) → 0 < n → eqb (getD t (p + 1) 0) (s .0) ≡ x → withLeft p n ≡ cond x 1 0 + withLeft (p + 22) (n - 1)
+    unfolding headsWith headAt
+    with-turn p n x h e = rw (heads-first t p n h, e)
+
+    pub with-none : (p n : ℕ) → n ≤ 0 → withLeft p n ≡ 0
+    unfolding headsWith headsFrom
+    with-none p zero h = refl
+    with-none p (suc n) h = absurd (omega arith)
+
+    module _ {far whole sum p left b : ℕ} (l : Left 1 22 4 far whole (withLeft p left) sum p left) (h : 0 < left) (e : b ≡ getD t (p + 1) 0) where
+      pub head-same : b ≡ s .0 → Left 1 22 4 far whole (withLeft (p + 22) (left - 1)) (sum + 1) (p + 22) (left - 1)
+      head-same q = record {
+        same = omega (arith, l .same, with-turn p left true h (eq-eqb _ _ (sym e ∙ q)));
+        few = omega (arith, l .few);
+        near = omega (arith, l .near);
+      }
+
+      pub head-other : (b ≡ s .0 → ⊥) → Left 1 22 4 far whole (withLeft (p + 22) (left - 1)) sum (p + 22) (left - 1)
+      head-other q = record {
+        same = omega (arith, l .same, with-turn p left false h (ne-eqb _ _ (λ (d : getD t (p + 1) 0 ≡ s .0). q (e ∙ d))));
+        few = omega (arith, l .few);
+        near = omega (arith, l .near);
+      }
+
+-- ---- body items
+
+module _ (t : List ℕ) where
+  module _ (weights : List ℕ) where
+    abbrev bodyLeft : ℕ → ℕ → ℕ
+    bodyLeft p n = bodyWeight (weightIn weights) (itemsFrom t p n)
+
+    pub body-none : (p n : ℕ) → n ≤ 0 → bodyLeft p n ≡ 0
+    unfolding bodyWeight itemsFrom
+    body-none p zero h = refl
+    body-none p (suc n) h = absurd (omega arith)
+
+    fact-turn : (p n : ℕ) → 0 < n → isFact t p ≡ true → bodyLeft p n ≡ getD weights (getD t (p + 1) 0) 1 + bodyLeft (p + 46) (n - 1)
+    unfolding bodyWeight bodyFactAt
+    fact-turn p n h e = rw (items-first t p n h, item-fact t p e, behind-fact t p e)
+
+    fail-turn : (p n : ℕ) → 0 < n → isFact t p ≡ false → bodyLeft p n ≡ bodyLeft (p + 1) (n - 1)
+    unfolding bodyWeight
+    fail-turn p n h e = rw (items-first t p n h, item-fail t p e, behind-fail t p e)
+
+    module _ {far whole sum p left : ℕ} {f : Bool} (l : Left 255 46 1020 far whole (bodyLeft p left) sum p left) (h : 0 < left) (q : f ≡ isFact t p) where
+      pub fact-weighed : {b r : ℕ} → f ≡ true → b ≡ getD t (p + 1) 0 → Counted (getD weights b 1) 255 r
+          → Left 255 46 1020 far whole (bodyLeft (p + 46) (left - 1)) (sum + r) (p + 46) (left - 1)
+      fact-weighed d e c =
+          let x : _ ≡ getD weights (getD t (p + 1) 0) 1 = c .same ∙ ap (λ (b : ℕ). getD weights b 1) e in
+          record { same = omega (arith, l .same, fact-turn p left h (sym q ∙ d), x); few = omega (arith, l .few, c .few); near = omega (arith, l .near) }
+
+      pub fail-weighed : f ≡ false → Left 255 46 1020 far whole (bodyLeft (p + 1) (left - 1)) sum (p + 1) (left - 1)
+      fail-weighed d = record { same = omega (arith, l .same, fail-turn p left h (sym q ∙ d)); few = omega (arith, l .few); near = omega (arith, l .near) }
+
+  abbrev factsLeft : ℕ → ℕ → ℕ
+  factsLeft p n = bodyFacts (itemsFrom t p n)
+
+  pub items-none : (p n : ℕ) → n ≤ 0 → factsLeft p n ≡ 0
+  unfolding bodyFacts itemsFrom
+  items-none p zero h = refl
+  items-none p (suc n) h = absurd (omega arith)
+
+  fact-more : (p n : ℕ) → 0 < n → isFact t p ≡ true → factsLeft p n ≡ suc (factsLeft (p + 46) (n - 1))
+  unfolding bodyFacts bodyFactAt
+  fact-more p n h e = rw (items-first t p n h, item-fact t p e, behind-fact t p e)
+
+  fail-more : (p n : ℕ) → 0 < n → isFact t p ≡ false → factsLeft p n ≡ factsLeft (p + 1) (n - 1)
+  unfolding bodyFacts
+  fail-more p n h e = rw (items-first t p n h, item-fail t p e, behind-fail t p e)
+
+  module _ {far whole sum p left : ℕ} {f : Bool} (l : Left 1 46 4 far whole (factsLeft p left) sum p left) (h : 0 < left) (q : f ≡ isFact t p) where
+    pub fact-counted : f ≡ true → Left 1 46 4 far whole (factsLeft (p + 46) (left - 1)) (sum + 1) (p + 46) (left - 1)
+    fact-counted d = record { same = omega (arith, l .same, fact-more p left h (sym q ∙ d)); few = omega (arith, l .few); near = omega (arith, l .near) }
+
+    pub fail-passed : f ≡ false → Left 1 46 4 far whole (factsLeft (p + 1) (left - 1)) sum (p + 1) (left - 1)
+    fail-passed d = record { same = omega (arith, l .same, fail-more p left h (sym q ∙ d)); few = omega (arith, l .few); near = omega (arith, l .near) }
+
+-- ---- a goal's facts
+
+module _ (weights g : List ℕ) where
+  abbrev goalLeft : ℕ → ℕ → ℕ
+  goalLeft p n = goalWeight (weightIn weights) (factsFrom g p n)
+
+  goal-turn : (p n : ℕ) → 0 < n → goalLeft p n ≡ getD weights (getD g (p + 1) 0) 1 + goalLeft (p + 18) (n - 1)
+  unfolding goalWeight factAt
+  goal-turn p n h = rw (facts-first g p n h)
+
+  pub goal-none : (p n : ℕ) → n ≤ 0 → goalLeft p n ≡ 0
+  unfolding goalWeight factsFrom
+  goal-none p zero h = refl
+  goal-none p (suc n) h = absurd (omega arith)
+
+  pub goal-weighed : {far whole sum p left b r : ℕ} → Left 255 18 16320 far whole (goalLeft p left) sum p left → 0 < left → b ≡ getD g (p + 1) 0
+      → Counted (getD weights b 1) 255 r → Left 255 18 16320 far whole (goalLeft (p + 18) (left - 1)) (sum + r) (p + 18) (left - 1)
+  goal-weighed {p = p} {left} l h e c =
+      let x : _ ≡ getD weights (getD g (p + 1) 0) 1 = c .same ∙ ap (λ (b : ℕ). getD weights b 1) e in
+      record { same = omega (arith, l .same, goal-turn p left h, x); few = omega (arith, l .few, c .few); near = omega (arith, l .near) }
+
+  -- all of a goal is left where it begins
+  pub goal-begins : length g / 18 ≤ 64 → Left 255 18 16320 1152 (goalWeight (weightIn weights) (goalOf g)) (goalLeft 0 (length g / 18)) 0 0 (length g / 18)
+  unfolding goalOf
+  goal-begins h = record { same = omega arith; few = omega arith; near = omega arith }

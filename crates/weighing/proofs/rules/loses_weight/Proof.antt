@@ -1,0 +1,20 @@
+-- `rules::loses_weight` meets its contract.
+use borrow.Author.Needs.{needs}
+use Rattle.weighing.proofs.Turns.{rule-loses}
+use Rattle.weighing.proofs.rules.loses_weight.Statement.{statement}
+use Rattle.weighing.proofs.rules.loses_weight.Tie as tie
+
+pub loses-weight-spec : {M : Type 1} → statement M
+loses-weight-spec =
+    tie.close
+    (tie.spec
+    (λ c. search needs)
+    (λ c. search needs)
+    (λ c. search needs)
+    (λ c. search needs)
+    (λ c. search needs)
+    (λ c. search needs)
+    (λ c κs. search needs)
+    (λ c κs. search needs)
+    (λ c κs. search needs)
+    (λ c. search (rule-loses, needs)))

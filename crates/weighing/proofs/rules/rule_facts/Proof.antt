@@ -1,0 +1,13 @@
+-- `rules::rule_facts` meets its contract.
+use borrow.Author.Needs.{needs}
+use Rattle.weighing.proofs.Turns.{rule-facts}
+use Rattle.weighing.proofs.rules.rule_facts.Statement.{statement}
+use Rattle.weighing.proofs.rules.rule_facts.Tie as tie
+
+pub rule-facts-spec : {M : Type 1} → statement M
+rule-facts-spec =
+    tie.close
+    (tie.spec
+    (λ c κs. search needs)
+    (λ c κs. search needs)
+    (λ c. search (rule-facts, needs)))

@@ -1,0 +1,120 @@
+// Weighing a table: "Weighing tests table, 40, 41, 42, then the goal; on 0 it gives the W and step bound .., and otherwise both are 0."
+pub mod bodies;
+pub mod goals;
+pub mod heads;
+pub mod rules;
+
+ghost use mathlib.Core.Path.{_≡_};
+ghost use mathlib.Core.Option.{none};
+ghost use Prim.Native.Nat.{_≤_};
+ghost use lib.Dec.{eqb};
+ghost use lib.ListN.{length};
+ghost use Rattle.model.specs.declared.Verdict.the-variants.{Good};
+ghost use Rattle.model.specs.Reading.{readOf};
+ghost use Rattle.model.specs.Goal.{goalVerdict};
+ghost use Rattle.model.specs.Weights.{stepBound};
+ghost use Rattle.model.specs.Calls.{refusedWeighing, weighed, weighRules, weighZero, weighCount, weighOf};
+ghost use Rattle.weighing.specs.Views.{Known};
+use model::CallResult;
+use model::Reading;
+use model::Verdict;
+use model::Weighing;
+
+// What a search for the first of its sort finds.
+pub enum First {
+    At(u32),
+    Nothing,
+}
+
+// Six numbers with no counts, W and the bound.
+fn weighing(number: u32, place: u32, weight: u32, bound: u32) -> Weighing
+    ensures { λ r. ⌜ r ≡ record { result = record { number = number; place = place; steps = 0; firings = 0; identifiers = 0; stored = 0 }; weight = weight; bound = bound } ⌝ }
+{
+    let result = CallResult {
+        number: number,
+        place: place,
+        steps: 0,
+        firings: 0,
+        identifiers: 0,
+        stored: 0,
+    };
+    Weighing {
+        result: result,
+        weight: weight,
+        bound: bound,
+    }
+}
+
+fn refused(number: u32, place: u32) -> Weighing
+    ensures { λ r. ⌜ r ≡ refusedWeighing number place ⌝ }
+{
+    weighing(number, place, 0, 0)
+}
+
+// (G + B·W)·(M + 2) + W + 1
+fn step_bound(facts: u32, body: u32, weight: u32, places: u32) -> u32
+    requires { ⌜ (facts ≤ 64) × (body ≤ 4) × (weight ≤ 16320) × (places ≤ 256) ⌝ }
+    ensures { λ r. ⌜ r ≡ stepBound facts body weight places ⌝ }
+{
+    (facts + body * weight) * (places + 2) + weight + 1
+}
+
+// W, and the bound with G, B and M.
+fn weighed(table: &[u8], weights: &[u8], goal: &[u8], reading: Reading) -> Weighing
+    requires { ⌜ Known (now table) reading × (goalVerdict (now table) (readOf (now table) .symbols) (now goal) ≡ Good) ⌝ }
+    ensures { λ r. ⌜ r ≡ weighed (now (table .entry)) (now (weights .entry)) (now (goal .entry)) ⌝ }
+{
+    let facts = goals::fact_count(goal);
+    let weight = goals::goal_weight(weights, goal);
+    let body = rules::most_facts(table, reading);
+    let places = rules::most_places(table, reading);
+    weighing(0, 0, weight, step_bound(facts, body, weight, places))
+}
+
+// The goal's own refusals: 32, 34, 33.
+fn weigh_goal(table: &[u8], weights: &[u8], goal: &[u8], reading: Reading) -> Weighing
+    requires { ⌜ Known (now table) reading ⌝ }
+    ensures { λ r. ⌜ r ≡ weighRules (now (table .entry)) (now (weights .entry)) (now (goal .entry)) none ⌝ }
+{
+    match goal::check_goal(table, reading.symbols, goal) {
+        Verdict::Good => weighed(table, weights, goal, reading),
+        Verdict::Refused(n, p) => refused(n as u32, p as u32),
+    }
+}
+
+// 42: "first rule that does not lose weight".
+fn weigh_rules(table: &[u8], weights: &[u8], goal: &[u8], reading: Reading) -> Weighing
+    requires { ⌜ Known (now table) reading ⌝ }
+    ensures { λ r. ⌜ r ≡ weighZero (now (table .entry)) (now (weights .entry)) (now (goal .entry)) none ⌝ }
+{
+    match rules::first_heavy(table, weights, reading) {
+        First::At(rule) => refused(42, rule),
+        First::Nothing => weigh_goal(table, weights, goal, reading),
+    }
+}
+
+// 40: "weight count differs from symbols"; 41: "first zero weight".
+fn weigh_weights(table: &[u8], weights: &[u8], goal: &[u8], reading: Reading) -> Weighing
+    requires { ⌜ Known (now table) reading ⌝ }
+    ensures { λ r. ⌜ r ≡ weighCount (now (table .entry)) (now (weights .entry)) (now (goal .entry)) (eqb (length (now (weights .entry))) (readOf (now (table .entry)) .symbols)) ⌝ }
+{
+    if weights.len() != reading.symbols as usize {
+        return refused(40, 0);
+    }
+    match goals::first_zero(weights) {
+        First::At(symbol) => refused(41, symbol),
+        First::Nothing => weigh_rules(table, weights, goal, reading),
+    }
+}
+
+// Whether each rule of a table loses weight with these weights, one byte a symbol, and what that bounds for a goal.
+pub fn weigh(table: &[u8], weights: &[u8], goal: &[u8]) -> Weighing
+    ensures { λ r. ⌜ r ≡ weighOf (now (table .entry)) (now (weights .entry)) (now (goal .entry)) ⌝ }
+{
+    let reading = table::read(table);
+    let verdict = reading.verdict;
+    match verdict {
+        Verdict::Good => weigh_weights(table, weights, goal, reading),
+        Verdict::Refused(n, p) => refused(n as u32, p as u32),
+    }
+}

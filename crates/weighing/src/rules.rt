@@ -1,0 +1,119 @@
+// The rules of a good table: the first that does not lose weight (42), B and M.
+ghost use mathlib.Core.Path.{_≡_};
+ghost use Prim.Native.Nat.{_≤_};
+ghost use lib.ListN.{length};
+ghost use Rattle.model.specs.Reading.{readOf};
+ghost use Rattle.model.specs.Table.{itemsStart, ruleOf, heads, tableOf, places};
+ghost use Rattle.model.specs.Weights.{weightIn, bodyFacts, firstHeavy, mostFacts, mostPlaces};
+ghost use Rattle.weighing.specs.Views.{Counted, Known, Lies, firstOf, losesWeight, headsWith};
+use crate::First;
+use crate::bodies;
+use crate::heads;
+use model::Reading;
+use model::RuleShape;
+use model::Symbol;
+
+pub fn items_start(shape: RuleShape) -> usize
+    requires { ⌜ itemsStart shape ≤ 23681 ⌝ }
+    ensures { λ r. ⌜ r ≡ itemsStart shape ⌝ }
+{
+    shape.start as usize + 1 + 22 * (shape.heads as usize) + 24 * (shape.guards as usize)
+}
+
+// Whether the removed heads of a rule weigh more than its body.
+fn loses_weight(table: &[u8], weights: &[u8], shape: RuleShape) -> bool
+    requires { ⌜ Lies shape ⌝ }
+    ensures { λ r. ⌜ r ≡ losesWeight (weightIn (now (weights .entry))) (ruleOf (now (table .entry)) shape) ⌝ }
+{
+    let from = shape.start as usize + 1 + 22 * (shape.kept as usize);
+    let removed = heads::heads_weight(table, weights, from, shape.heads - shape.kept);
+    let body = bodies::body_weight(table, weights, items_start(shape), shape.items);
+    body < removed
+}
+
+// 42: "first rule that does not lose weight".
+pub fn first_heavy(table: &[u8], weights: &[u8], reading: Reading) -> First
+    requires { ⌜ Known (now table) reading ⌝ }
+    ensures { λ r. ⌜ firstOf r ≡ firstHeavy (weightIn (now (weights .entry))) 0 (tableOf (now (table .entry)) .rules) ⌝ }
+{
+    let rules = reading.rules as usize;
+    let mut left = rules;
+    while 0 < left {
+        let i = rules - left;
+        left -= 1;
+        let shape = reading.shapes[i];
+        if !loses_weight(table, weights, shape) {
+            return First::At(i as u32);
+        }
+    }
+    First::Nothing
+}
+
+// How many facts the body of a rule has.
+fn rule_facts(table: &[u8], shape: RuleShape) -> u32
+    requires { ⌜ Lies shape ⌝ }
+    ensures { λ r. ⌜ Counted (bodyFacts (ruleOf (now (table .entry)) shape .body)) 4 r ⌝ }
+{
+    bodies::body_facts(table, items_start(shape), shape.items)
+}
+
+// B: the most facts in any body.
+pub fn most_facts(table: &[u8], reading: Reading) -> u32
+    requires { ⌜ Known (now table) reading ⌝ }
+    ensures { λ r. ⌜ Counted (mostFacts (tableOf (now (table .entry)) .rules)) 4 r ⌝ }
+{
+    let rules = reading.rules as usize;
+    let mut most: u32 = 0;
+    let mut i = 0;
+    while i < rules {
+        let shape = reading.shapes[i];
+        i += 1;
+        let facts = rule_facts(table, shape);
+        if most < facts {
+            most = facts;
+        }
+    }
+    most
+}
+
+// How many heads of a rule have this symbol.
+fn rule_heads_with(table: &[u8], shape: RuleShape, symbol: Symbol) -> u32
+    requires { ⌜ Lies shape ⌝ }
+    ensures { λ r. ⌜ Counted (headsWith symbol (heads (ruleOf (now (table .entry)) shape))) 4 r ⌝ }
+{
+    heads::heads_with(table, shape.start as usize + 1, shape.heads, symbol)
+}
+
+// How many head places a symbol has: as many as heads with it, over all rules.
+fn symbol_places(table: &[u8], reading: Reading, symbol: Symbol) -> u32
+    requires { ⌜ Known (now table) reading ⌝ }
+    ensures { λ r. ⌜ Counted (length (places (tableOf (now (table .entry))) symbol)) 256 r ⌝ }
+{
+    let rules = reading.rules as usize;
+    let mut count: u32 = 0;
+    let mut i = 0;
+    while i < rules {
+        let shape = reading.shapes[i];
+        count += rule_heads_with(table, shape, symbol);
+        i += 1;
+    }
+    count
+}
+
+// M: the most head places of any symbol.
+pub fn most_places(table: &[u8], reading: Reading) -> u32
+    requires { ⌜ Known (now table) reading ⌝ }
+    ensures { λ r. ⌜ Counted (mostPlaces (tableOf (now (table .entry))) (readOf (now (table .entry)) .symbols)) 256 r ⌝ }
+{
+    let symbols = reading.symbols;
+    let mut most: u32 = 0;
+    let mut s: u8 = 0;
+    while s < symbols {
+        let count = symbol_places(table, reading, Symbol(s));
+        s += 1;
+        if most < count {
+            most = count;
+        }
+    }
+    most
+}

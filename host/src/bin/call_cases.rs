@@ -1,0 +1,167 @@
+//! `call_cases FOLDER [GROUP...]`: stored cases for a program that runs them against the proved
+//! library. It writes `stdin`, the cases, and `stdout`, the lines that the reference expects.
+//! Groups are `check`, `goal`, `run`, `weigh` and `find`; without a name all of them are written.
+//!
+//! [`stored`] says how they look.
+
+use std::env;
+use std::path::Path;
+use std::process::ExitCode;
+
+use nadhirukh_host::cases::random::Random;
+use nadhirukh_host::cases::{self, edges, finding, Case};
+use nadhirukh_host::tools::{self, Trouble};
+use nadhirukh_host::{stored, verdict};
+
+/// A group's name, and what gives its cases.
+type Group = (&'static str, fn() -> Vec<Case>);
+
+const GROUPS: [Group; 5] = [
+    ("check", check_cases),
+    ("goal", || pick(3, GOAL, cases::refused_run_case)),
+    ("run", run_cases),
+    ("weigh", || pick(5, WEIGH, cases::weigh_case)),
+    ("find", find_cases),
+];
+
+/// The seed of all groups; a group begins its own row of cases with it.
+const SEED: u64 = 2004;
+
+/// How many cases of each number a group takes.
+type Quota = &'static [(u32, usize)];
+
+const CHECK: Quota = &[
+    (0, 60),
+    (16, 40),
+    (17, 40),
+    (18, 50),
+    (19, 40),
+    (20, 70),
+    (21, 40),
+    (22, 40),
+    (23, 40),
+];
+const GOAL: Quota = &[(32, 45), (33, 60), (34, 30), (35, 40), (36, 40)];
+const RUN: Quota = &[
+    (0, 240),
+    (1, 35),
+    (2, 50),
+    (3, 40),
+    (4, 40),
+    (5, 30),
+    (6, 30),
+    (7, 25),
+];
+const WEIGH: Quota = &[
+    (0, 190),
+    (16, 3),
+    (17, 3),
+    (20, 5),
+    (23, 3),
+    (32, 35),
+    (33, 35),
+    (34, 25),
+    (40, 50),
+    (41, 50),
+    (42, 60),
+];
+const FIND: Quota = &[
+    (0, 90),
+    (16, 5),
+    (17, 5),
+    (18, 5),
+    (19, 5),
+    (20, 5),
+    (21, 5),
+    (22, 5),
+    (23, 5),
+    (40, 25),
+    (42, 50),
+];
+
+fn main() -> ExitCode {
+    tools::status("call_cases", write())
+}
+
+fn write() -> Result<ExitCode, Trouble> {
+    let (folder, groups) = arguments().ok_or_else(|| {
+        let names = GROUPS.map(|(name, _)| name).join(", ");
+        tools::usage(&format!(
+            "call_cases FOLDER [GROUP...], with GROUP of {}",
+            names
+        ))
+    })?;
+    let mut input = Vec::new();
+    let mut lines = String::new();
+    for (name, cases) in &groups {
+        let cases = cases();
+        let before = input.len();
+        for case in &cases {
+            input.extend(stored::case(case));
+            lines += &stored::line(case, &verdict::reference(case));
+            lines.push('\n');
+        }
+        let bytes = input.len() - before;
+        println!("{}: {} cases, {} bytes", name, cases.len(), bytes);
+    }
+    input.push(stored::END);
+    let folder = Path::new(&folder);
+    tools::make_folder(folder)?;
+    tools::write(&folder.join("stdin"), input)?;
+    tools::write(&folder.join("stdout"), lines)?;
+    Ok(ExitCode::SUCCESS)
+}
+
+/// The folder and the groups, all of them if none is named; nothing if a name is no group's.
+fn arguments() -> Option<(String, Vec<Group>)> {
+    let mut arguments = env::args().skip(1);
+    let folder = arguments.next()?;
+    let group = |name: String| GROUPS.into_iter().find(|group| group.0 == name);
+    let groups: Vec<Group> = arguments.map(group).collect::<Option<_>>()?;
+    let all = groups.is_empty();
+    Some((folder, if all { GROUPS.into() } else { groups }))
+}
+
+/// Tables at every edge, the longest one whole and damaged, and random ones.
+fn check_cases() -> Vec<Case> {
+    let edges = edges::tables().into_iter();
+    let all = edges.chain(edges::longest_tables(SEED));
+    let mut found: Vec<Case> = all.map(Case::check).collect();
+    found.extend(pick(2, CHECK, cases::check_case));
+    found
+}
+
+/// Random runs, then a few of the longest table.
+fn run_cases() -> Vec<Case> {
+    let mut found = pick(4, RUN, cases::run_case);
+    let mut random = Random::new(SEED);
+    found.extend((0..3).map(|_| cases::longest_case(&mut random)));
+    found
+}
+
+/// The longest searches for weights, then random ones.
+fn find_cases() -> Vec<Case> {
+    let mut found = finding::longest_searches();
+    found.extend(pick(6, FIND, finding::case));
+    found
+}
+
+/// Takes cases from a generator until every number's quota is full.
+fn pick(row: u64, quota: Quota, generate: fn(&mut Random) -> Case) -> Vec<Case> {
+    let mut left = quota.to_vec();
+    let mut found = Vec::new();
+    for at in 0.. {
+        let case = generate(&mut Random::new(SEED + (row << 32) + at));
+        let number = verdict::reference(&case).outcome.number;
+        if let Some(wanted) = left.iter_mut().find(|wanted| wanted.0 == number) {
+            if wanted.1 > 0 {
+                wanted.1 -= 1;
+                found.push(case);
+            }
+        }
+        if left.iter().all(|wanted| wanted.1 == 0) {
+            break;
+        }
+    }
+    found
+}
