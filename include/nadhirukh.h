@@ -61,7 +61,7 @@
 #define NADHIRUKH_BAD_FIELD 20u           /* a record with a bad field; place: its offset */
 #define NADHIRUKH_NO_HEAD 21u             /* a guard, body item, rule or end after a rule with no head; place: its offset */
 #define NADHIRUKH_VARIABLE_IN_NO_HEAD 22u /* a guard or body variable that is in no head; place: the record's offset */
-#define NADHIRUKH_BYTES_AFTER_END 23u     /* bytes after the end record; place: the first of them */
+#define NADHIRUKH_BYTES_AFTER_END 23u     /* bytes after the end record; place: the offset of the first of them */
 
 /* Then those of the goal, the limit and the answer buffer: */
 #define NADHIRUKH_GOAL_CUT 32u         /* the goal's length is no multiple of 18; place: 0 */

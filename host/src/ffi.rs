@@ -2,7 +2,7 @@
 //! between guard bytes, and all lent memory is compared afterwards.
 
 use crate::cases::{Call, Case};
-use crate::outcome::Outcome;
+use crate::outcome::{BoundWords, Outcome, ResultWords, BOUND_WORDS, RESULT_WORDS};
 use crate::verdict::{Verdict, FILL};
 
 // Elsewhere a program would not link, and the linker says it at length.
@@ -48,13 +48,19 @@ extern "C" {
 }
 
 /// Checks a table: the number returned, and the result.
-pub fn check(table: &[u8], result: &mut [u32; 6]) -> u32 {
+pub fn check(table: &[u8], result: &mut ResultWords) -> u32 {
     // SAFETY: slices and arrays are valid for their lengths and do not overlap.
     unsafe { nadhirukh_check(table.as_ptr(), table.len(), result.as_mut_ptr()) }
 }
 
 /// Runs a goal: the number returned, and the result.
-pub fn run(table: &[u8], goal: &[u8], limit: u32, answer: &mut [u8], result: &mut [u32; 6]) -> u32 {
+pub fn run(
+    table: &[u8],
+    goal: &[u8],
+    limit: u32,
+    answer: &mut [u8],
+    result: &mut ResultWords,
+) -> u32 {
     // SAFETY: slices and arrays are valid for their lengths and do not overlap.
     unsafe {
         nadhirukh_run(
@@ -75,8 +81,8 @@ pub fn weigh(
     table: &[u8],
     weights: &[u8],
     goal: &[u8],
-    result: &mut [u32; 6],
-    bound: &mut [u32; 2],
+    result: &mut ResultWords,
+    bound: &mut BoundWords,
 ) -> u32 {
     // SAFETY: slices and arrays are valid for their lengths and do not overlap.
     unsafe {
@@ -94,7 +100,7 @@ pub fn weigh(
 }
 
 /// Looks for weights: the number returned, and the result.
-pub fn find_weights(table: &[u8], weights: &mut [u8], result: &mut [u32; 6]) -> u32 {
+pub fn find_weights(table: &[u8], weights: &mut [u8], result: &mut ResultWords) -> u32 {
     // SAFETY: slices and arrays are valid for their lengths and do not overlap.
     unsafe {
         nadhirukh_find_weights(
@@ -145,8 +151,8 @@ struct Lent {
     goal: Guarded,
     weights: Guarded,
     answer: Guarded,
-    result: [[u32; 6]; 3],
-    bound: [[u32; 2]; 3],
+    result: [ResultWords; 3],
+    bound: [BoundWords; 3],
 }
 
 impl Lent {
@@ -156,8 +162,8 @@ impl Lent {
             goal: Guarded::new(&case.goal),
             weights: Guarded::new(&case.weights),
             answer: Guarded::new(&vec![FILL; case.answer_len]),
-            result: [[STALE; 6]; 3],
-            bound: [[STALE; 2]; 3],
+            result: [[STALE; RESULT_WORDS]; 3],
+            bound: [[STALE; BOUND_WORDS]; 3],
         }
     }
 
@@ -207,7 +213,7 @@ pub fn verdict(case: &Case) -> Result<Verdict, String> {
 }
 
 /// Whether the words before and after result and bound are as they were.
-fn guards_kept(result: &[[u32; 6]; 3], bound: &[[u32; 2]; 3]) -> bool {
+fn guards_kept(result: &[ResultWords; 3], bound: &[BoundWords; 3]) -> bool {
     let stale = |words: &[u32]| words.iter().all(|word| *word == STALE);
     stale(&result[0]) && stale(&result[2]) && stale(&bound[0]) && stale(&bound[2])
 }

@@ -3,7 +3,7 @@
 //!
 //! - [`format`]: record kinds, record lengths and limits, each named once.
 //! - [`names`]: fact identifiers, symbols, rules and occurrences, which count separate things.
-//! - [`outcome`]: the six numbers of a result, and the two of a weighing.
+//! - [`outcome`]: the words of a result, those of a bound, and every number there is.
 //! - [`reference`](crate::reference): the second engine, written to be read.
 //! - [`plain`]: a plain fast engine with the proved engine's scan, the yardstick for its speed.
 //! - [`build`]: tables and goals in readable form, for tests and examples.

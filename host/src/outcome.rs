@@ -1,15 +1,48 @@
-//! What the calls return: the six numbers of a result, and the two of a weighing.
+//! What the calls return: the words of a result, those of a bound, and every number there is.
+
+/// How many words a result has. The C header names it once more, for C alone.
+pub const RESULT_WORDS: usize = 6;
+/// How many of them stand before the counts: number and place.
+pub const COUNTS_FROM: usize = 2;
+/// How many words a bound has: W and the most steps.
+pub const BOUND_WORDS: usize = 2;
+
+/// The words of a result, in their order.
+pub type ResultWords = [u32; RESULT_WORDS];
+/// The words of a bound, in their order.
+pub type BoundWords = [u32; BOUND_WORDS];
 
 /// The numbers that a run can end with, done first.
 pub const ENDINGS: [u32; 8] = [0, 1, 2, 3, 4, 5, 6, 7];
-/// The numbers that a table, a goal, a limit, a buffer or a weighing can be refused with.
-pub const REFUSALS: [u32; 16] = [
-    16, 17, 18, 19, 20, 21, 22, 23, 32, 33, 34, 35, 36, 40, 41, 42,
-];
-/// The numbers that a search for weights can give, found first.
-pub const FINDINGS: [u32; 11] = [0, 16, 17, 18, 19, 20, 21, 22, 23, 40, 42];
+/// The numbers that a table can be refused with.
+pub const TABLE_REFUSALS: [u32; 8] = [16, 17, 18, 19, 20, 21, 22, 23];
+/// The numbers that a goal, a limit or an answer buffer can be refused with.
+pub const GOAL_REFUSALS: [u32; 5] = [32, 33, 34, 35, 36];
+/// The numbers that weights can be refused with.
+pub const WEIGHT_REFUSALS: [u32; 3] = [40, 41, 42];
+/// Of these, the numbers that a search for weights can give, which looks at no weight that it gets.
+const FINDING_REFUSALS: [u32; 2] = [40, 42];
 
-/// A result: number, place and four counts.
+/// One more than the greatest number.
+pub const PAST_NUMBERS: usize = 1 + WEIGHT_REFUSALS[WEIGHT_REFUSALS.len() - 1] as usize;
+
+/// Every number that a call can give, in rising order.
+pub fn numbers() -> Vec<u32> {
+    [
+        &ENDINGS[..],
+        &TABLE_REFUSALS,
+        &GOAL_REFUSALS,
+        &WEIGHT_REFUSALS,
+    ]
+    .concat()
+}
+
+/// Every number that a search for weights can give, found first.
+pub fn findings() -> Vec<u32> {
+    [&[0][..], &TABLE_REFUSALS, &FINDING_REFUSALS].concat()
+}
+
+/// A result: number, place and the counts.
 #[derive(Clone, Copy, Debug, Default, PartialEq, Eq)]
 pub struct Outcome {
     pub number: u32,
@@ -23,7 +56,7 @@ pub struct Outcome {
 }
 
 impl Outcome {
-    /// Six zeros: the result of checking a good table.
+    /// Zeros: the result of checking a good table.
     pub const GOOD: Outcome = Outcome {
         number: 0,
         place: 0,
@@ -33,8 +66,8 @@ impl Outcome {
         stored: 0,
     };
 
-    /// The six numbers in their order.
-    pub fn numbers(&self) -> [u32; 6] {
+    /// Its words in their order.
+    pub fn words(&self) -> ResultWords {
         [
             self.number,
             self.place,
@@ -46,20 +79,21 @@ impl Outcome {
     }
 }
 
-impl From<[u32; 6]> for Outcome {
-    fn from(n: [u32; 6]) -> Outcome {
+impl From<ResultWords> for Outcome {
+    fn from(words: ResultWords) -> Outcome {
+        let [number, place, steps, firings, identifiers, stored] = words;
         Outcome {
-            number: n[0],
-            place: n[1],
-            steps: n[2],
-            firings: n[3],
-            identifiers: n[4],
-            stored: n[5],
+            number,
+            place,
+            steps,
+            firings,
+            identifiers,
+            stored,
         }
     }
 }
 
-/// A refusal, number 16 or above: all four counts are 0.
+/// A refusal, number 16 or above: all counts are 0.
 #[derive(Clone, Copy, Debug, PartialEq, Eq)]
 pub struct Refusal {
     pub number: u32,

@@ -35,7 +35,7 @@ pub fn case(case: &Case) -> Vec<u8> {
 /// The line expected for a case.
 pub fn line(case: &Case, verdict: &Verdict) -> String {
     let mut words = vec![letter(case.call).to_string()];
-    words.extend(verdict.outcome.numbers().iter().map(u32::to_string));
+    words.extend(verdict.outcome.words().iter().map(u32::to_string));
     match case.call {
         Call::Check => {}
         Call::Run => words.extend(answer_words(verdict)),

@@ -1,7 +1,7 @@
 //! Everything that a call gives back for a case: numbers and every byte of the buffers it writes.
 
 use crate::cases::{Call, Case};
-use crate::outcome::{Outcome, Weighing};
+use crate::outcome::{BoundWords, Outcome, Weighing, BOUND_WORDS};
 use crate::reference;
 
 /// What an answer buffer holds before a call.
@@ -12,7 +12,7 @@ pub const FILL: u8 = 0xA5;
 pub struct Verdict {
     pub outcome: Outcome,
     /// W and the step bound; 0 for calls that do not weigh.
-    pub bound: [u32; 2],
+    pub bound: BoundWords,
     /// The whole answer buffer after the call; empty for calls that do not run.
     pub answer: Vec<u8>,
     /// The whole buffer of weights after a call that looks for them; empty for other calls.
@@ -24,7 +24,7 @@ impl Verdict {
     pub fn of_check(outcome: Outcome) -> Verdict {
         Verdict {
             outcome,
-            bound: [0; 2],
+            bound: [0; BOUND_WORDS],
             answer: Vec::new(),
             weights: Vec::new(),
         }

@@ -3,37 +3,53 @@
 use crate::format::{
     GUARD, KEPT, MAX_GUARDS, MAX_HEADS, MAX_ITEMS, MAX_RULES, MAX_SYMBOLS, REMOVED, RULE, SYMBOL,
 };
-use crate::header::definitions;
+use crate::header::{definitions, Definition};
 use crate::outcome::{Outcome, Refusal};
 
 /// What a number means, in the header's words; nothing for a number that it does not name.
 pub fn meaning(number: u32) -> Option<&'static str> {
-    let mut named = definitions().filter(|definition| definition.value == number as usize);
-    named.find_map(|definition| Some(definition.ending()?.0))
+    Some(named(number)?.ending()?.0)
+}
+
+/// What the place of a number is; nothing where it is always 0, and for a number without a name.
+pub fn place(number: u32) -> Option<&'static str> {
+    let said = named(number)?.ending()?.1;
+    let sorts = [
+        ("rule", "rule"),
+        ("offset", "byte"),
+        ("fact", "goal fact"),
+        ("symbol", "symbol"),
+    ];
+    let sort = sorts.iter().find(|(word, _)| said.contains(word));
+    sort.map(|(_, sort)| *sort)
 }
 
 /// Why a table, or a goal of it, is refused.
 pub fn refused(table: &[u8], refusal: Refusal) -> String {
-    let kind = table.get(refusal.place as usize);
-    match (refusal.number, kind) {
-        (19, Some(kind)) => one_too_many(*kind),
-        (number, _) => told(number),
+    let name = named(refusal.number).map(|definition| definition.name);
+    match (name, table.get(refusal.place as usize)) {
+        (Some("ONE_TOO_MANY"), Some(kind)) => one_too_many(*kind),
+        _ => told(refusal.number),
     }
 }
 
 /// How a run of this table ended or why it was refused, with the rule, byte or fact at its place.
 pub fn ended(table: &[u8], outcome: &Outcome) -> String {
-    let place = match outcome.number {
-        3 | 4 | 6 | 7 => "rule",
-        16..=23 => "byte",
-        33 => "goal fact",
-        number => return told(number),
-    };
     let refusal = Refusal {
         number: outcome.number,
         place: outcome.place,
     };
-    format!("{}: {} {}", refused(table, refusal), place, outcome.place)
+    let why = refused(table, refusal);
+    match place(outcome.number) {
+        Some(sort) => format!("{}: {} {}", why, sort, outcome.place),
+        None => why,
+    }
+}
+
+/// The header's line for the number of an ending or a refusal.
+fn named(number: u32) -> Option<Definition> {
+    let mut numbers = definitions().filter(|definition| definition.ending().is_some());
+    numbers.find(|definition| definition.value == number as usize)
 }
 
 /// What a number means, or the number itself.

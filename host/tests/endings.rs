@@ -4,19 +4,20 @@ use nadhirukh_host::build::{
     alone, constant, goal, of, table, variable, Rule, EQUAL, GREATER, LESS, QUOTIENT, SUM,
 };
 use nadhirukh_host::format::{ANSWER_LEN, MAX_LIMIT};
+use nadhirukh_host::outcome::ResultWords;
 use nadhirukh_host::{plain, reference};
 
-/// Runs both engines; they agree. The six numbers, and the answer.
-fn run(table: &[u8], goal: &[u8], limit: u32) -> ([u32; 6], Vec<u8>) {
+/// Runs both engines; they agree. The words of the result, and the answer.
+fn run(table: &[u8], goal: &[u8], limit: u32) -> (ResultWords, Vec<u8>) {
     let mut answer = vec![0xA5; ANSWER_LEN];
     let mut plain_answer = answer.clone();
     let outcome = reference::run(table, goal, limit, &mut answer);
     assert_eq!(plain::run(table, goal, limit, &mut plain_answer), outcome);
     assert_eq!(plain_answer, answer);
-    (outcome.numbers(), answer)
+    (outcome.words(), answer)
 }
 
-fn numbers(table: &[u8], goal: &[u8], limit: u32) -> [u32; 6] {
+fn words(table: &[u8], goal: &[u8], limit: u32) -> ResultWords {
     run(table, goal, limit).0
 }
 
@@ -31,11 +32,11 @@ fn done_is_tested_before_the_limit_and_everything_else_behind_it() {
     let rule = Rule::new().remove(0, &[]).fail();
     let table = table(&[0], &[rule]);
     let goal = goal(&[(0, &[])]);
-    assert_eq!(numbers(&table, &goal, 0), [2, 0, 0, 0, 0, 0]);
-    assert_eq!(numbers(&table, &goal, 1), [2, 0, 1, 0, 1, 1]);
-    assert_eq!(numbers(&table, &goal, 2), [2, 0, 2, 1, 1, 0]);
-    assert_eq!(numbers(&table, &goal, 3), [1, 0, 3, 1, 1, 0]);
-    assert_eq!(numbers(&table, &[], 0), [0, 0, 0, 0, 0, 0]);
+    assert_eq!(words(&table, &goal, 0), [2, 0, 0, 0, 0, 0]);
+    assert_eq!(words(&table, &goal, 1), [2, 0, 1, 0, 1, 1]);
+    assert_eq!(words(&table, &goal, 2), [2, 0, 2, 1, 1, 0]);
+    assert_eq!(words(&table, &goal, 3), [1, 0, 3, 1, 1, 0]);
+    assert_eq!(words(&table, &[], 0), [0, 0, 0, 0, 0, 0]);
 }
 
 #[test]
@@ -44,7 +45,7 @@ fn a_fail_gives_up_the_rest_of_the_stack() {
     let table = table(&[0, 0], &[rule]);
     let goal = goal(&[(0, &[]), (0, &[])]);
     // Activate p, Simplify, Activate q, Drop, Fail.
-    assert_eq!(numbers(&table, &goal, 99), [1, 0, 5, 1, 2, 1]);
+    assert_eq!(words(&table, &goal, 99), [1, 0, 5, 1, 2, 1]);
 }
 
 #[test]
@@ -54,7 +55,7 @@ fn a_body_argument_behind_a_fail_can_be_undefined() {
     let rule = Rule::new().remove(0, &[x]).fail().add(0, &[bad]);
     let never = Rule::new().remove(0, &[constant(77)]);
     let table = table(&[1], &[never, rule]);
-    assert_eq!(numbers(&table, &goal(&[(0, &[1])]), 99), [4, 1, 2, 0, 1, 1]);
+    assert_eq!(words(&table, &goal(&[(0, &[1])]), 99), [4, 1, 2, 0, 1, 1]);
 }
 
 #[test]
@@ -68,8 +69,8 @@ fn an_undefined_guard_counts_only_before_the_first_applicable_instance() {
     let table = table(&[1, 1], &[rule]);
     let first_applies = goal(&[(0, &[2]), (0, &[0]), (1, &[3])]);
     let undefined_first = goal(&[(0, &[0]), (0, &[2]), (1, &[3])]);
-    assert_eq!(numbers(&table, &first_applies, 99)[0], 0);
-    assert_eq!(numbers(&table, &undefined_first, 99), [3, 0, 7, 0, 3, 3]);
+    assert_eq!(words(&table, &first_applies, 99)[0], 0);
+    assert_eq!(words(&table, &undefined_first, 99), [3, 0, 7, 0, 3, 3]);
 }
 
 #[test]
@@ -77,10 +78,10 @@ fn the_store_holds_128_facts() {
     let x = variable(0);
     let rule = Rule::new().keep(0, &[x]).add(0, &[of(SUM, x, constant(1))]);
     let table = table(&[1], &[rule]);
-    let ended = numbers(&table, &counted(1), MAX_LIMIT);
+    let ended = words(&table, &counted(1), MAX_LIMIT);
     assert_eq!(ended, [5, 0, 256, 128, 128, 128]);
     // One step before, the limit is met first.
-    assert_eq!(numbers(&table, &counted(1), 256)[0], 2);
+    assert_eq!(words(&table, &counted(1), 256)[0], 2);
 }
 
 #[test]
@@ -96,11 +97,11 @@ fn the_stack_holds_256_entries() {
     // Each firing adds one entry net: 255 of them fill the stack, the 256th is not taken.
     let ended = [6, 0, 511, 255, 256, 1];
     assert_eq!(
-        numbers(&table(&[1], &[doubling(false)]), &counted(1), MAX_LIMIT),
+        words(&table(&[1], &[doubling(false)]), &counted(1), MAX_LIMIT),
         ended
     );
     assert_eq!(
-        numbers(&table(&[1], &[doubling(true)]), &counted(1), MAX_LIMIT),
+        words(&table(&[1], &[doubling(true)]), &counted(1), MAX_LIMIT),
         ended
     );
 }
@@ -112,10 +113,10 @@ fn the_history_holds_256_entries() {
     let table = table(&[1], &[pairs]);
     // 16 facts make 240 ordered pairs, 17 make 272.
     assert_eq!(
-        numbers(&table, &counted(16), MAX_LIMIT)[..4],
+        words(&table, &counted(16), MAX_LIMIT)[..4],
         [0, 0, 304, 240]
     );
-    let ended = numbers(&table, &counted(17), MAX_LIMIT);
+    let ended = words(&table, &counted(17), MAX_LIMIT);
     assert_eq!((ended[0], ended[3]), (7, 256));
 }
 
@@ -128,7 +129,7 @@ fn room_in_the_history_is_used_again() {
         .remove(0, &[x])
         .guard(alone(x), LESS, alone(constant(1000)))
         .add(0, &[of(SUM, x, constant(1))]);
-    let ended = numbers(&table(&[1], &[once, next]), &counted(1), MAX_LIMIT);
+    let ended = words(&table(&[1], &[once, next]), &counted(1), MAX_LIMIT);
     assert_eq!(ended, [0, 0, 4 * 999 + 5, 1000 + 999, 1000, 1]);
 }
 
@@ -145,7 +146,7 @@ fn every_removed_fact_frees_its_room_in_the_history() {
         .add(1, &[up]);
     let rules = [Rule::new().keep(0, &[x]), Rule::new().keep(1, &[x]), pair];
     let goal = goal(&[(0, &[1]), (1, &[1])]);
-    let ended = numbers(&table(&[1, 1], &rules), &goal, MAX_LIMIT);
+    let ended = words(&table(&[1, 1], &rules), &goal, MAX_LIMIT);
     // A turn: five steps for p; Activate, Propagate, Default and the firing for q.
     assert_eq!(ended, [0, 0, 9 * 499 + 10, 3 * 499 + 2, 1000, 2]);
 }
@@ -159,7 +160,7 @@ fn a_removed_active_fact_keeps_its_entry_on_the_stack() {
         .remove(0, &[x])
         .remove(1, &[x])
         .add(0, &[of(SUM, x, constant(1))]);
-    let ended = numbers(&table(&[1, 1], &[copy, next]), &counted(1), MAX_LIMIT);
+    let ended = words(&table(&[1, 1], &[copy, next]), &counted(1), MAX_LIMIT);
     // The 256th p would put its q on top of 256 entries.
     assert_eq!(ended, [6, 0, 4 * 255 + 1, 2 * 255, 2 * 255 + 1, 1]);
 }
@@ -175,7 +176,7 @@ fn a_removed_active_fact_goes_on_by_default_to_drop() {
         .guard(alone(x), GREATER, alone(x));
     let table = table(&[1, 0], &[start, remove, never]);
     // p: Activate, Propagate; q: Activate, Propagate, Default, Drop; p: three Defaults, Drop.
-    assert_eq!(numbers(&table, &counted(1), 99), [0, 0, 10, 2, 2, 1]);
+    assert_eq!(words(&table, &counted(1), 99), [0, 0, 10, 2, 2, 1]);
 }
 
 #[test]
@@ -184,7 +185,7 @@ fn an_active_fact_stays_at_its_occurrence_after_it_propagates() {
     let table = table(&[0, 0], &[rule]);
     let goal = goal(&[(1, &[]), (1, &[]), (1, &[]), (0, &[])]);
     // Three times Activate, Default, Drop; then Activate, three firings, Default, Drop.
-    assert_eq!(numbers(&table, &goal, 99), [0, 0, 15, 3, 4, 1]);
+    assert_eq!(words(&table, &goal, 99), [0, 0, 15, 3, 4, 1]);
 }
 
 #[test]
@@ -192,7 +193,7 @@ fn one_fact_never_stands_at_two_heads() {
     let x = variable(0);
     let rule = Rule::new().keep(0, &[x]).remove(0, &[x]);
     let table = table(&[1], &[rule]);
-    assert_eq!(numbers(&table, &counted(2), 99), [0, 0, 8, 0, 2, 2]);
+    assert_eq!(words(&table, &counted(2), 99), [0, 0, 8, 0, 2, 2]);
 }
 
 #[test]
@@ -225,8 +226,8 @@ fn endings_that_meet_in_one_firing_come_in_the_order_4_6_7() {
     let table = table(&[1], &[rule]);
     let from = |start: i32| goal(&[(0, &[start])]);
     // The 256th firing passes the stack's room; the sum is undefined one later, then there too.
-    let later = numbers(&table, &from(i32::MAX - 256), MAX_LIMIT);
+    let later = words(&table, &from(i32::MAX - 256), MAX_LIMIT);
     assert_eq!(later, [6, 0, 511, 255, 256, 1]);
-    let both = numbers(&table, &from(i32::MAX - 255), MAX_LIMIT);
+    let both = words(&table, &from(i32::MAX - 255), MAX_LIMIT);
     assert_eq!(both, [4, 0, 511, 255, 256, 1]);
 }

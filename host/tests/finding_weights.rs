@@ -4,7 +4,7 @@ use nadhirukh_host::build::{table, table_a, Rule};
 use nadhirukh_host::cases::finding::{self, Bodies};
 use nadhirukh_host::cases::random::Random;
 use nadhirukh_host::cases::{edges, Plan};
-use nadhirukh_host::outcome::FINDINGS;
+use nadhirukh_host::outcome::{findings, COUNTS_FROM, PAST_NUMBERS, RESULT_WORDS};
 use nadhirukh_host::reference;
 
 /// What a buffer of weights holds before a call.
@@ -14,7 +14,10 @@ const HELD: u8 = 0;
 fn finds(table: &[u8], len: usize) -> (u32, u32, Vec<u8>) {
     let mut buffer = vec![HELD; len];
     let outcome = reference::find_weights(table, &mut buffer);
-    assert_eq!(outcome.numbers()[2..], [0; 4]);
+    assert_eq!(
+        outcome.words()[COUNTS_FROM..],
+        [0; RESULT_WORDS - COUNTS_FROM]
+    );
     (outcome.number, outcome.place, buffer)
 }
 
@@ -123,7 +126,7 @@ fn a_ring_has_no_weights() {
 
 #[test]
 fn weights_found_are_accepted_by_weighing() {
-    let mut seen = [0_u32; 43];
+    let mut seen = [0_u32; PAST_NUMBERS];
     for seed in 0..8_000 {
         let case = finding::case(&mut Random::new(seed));
         let (number, place, found) = finds(&case.table, case.weights.len());
@@ -136,7 +139,7 @@ fn weights_found_are_accepted_by_weighing() {
         };
         assert_eq!((weighed.number, weighed.place), expected, "seed {}", seed);
     }
-    for number in FINDINGS {
+    for number in findings() {
         let count = seen[number as usize];
         assert!(count >= 20, "number {} occurred {} times", number, count);
     }

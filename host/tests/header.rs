@@ -8,8 +8,8 @@ use nadhirukh_host::build::{
 };
 use nadhirukh_host::format::*;
 use nadhirukh_host::header::definitions;
-use nadhirukh_host::outcome::{Outcome, ENDINGS, REFUSALS};
-use nadhirukh_host::reference;
+use nadhirukh_host::outcome::{self, Outcome, BOUND_WORDS, RESULT_WORDS};
+use nadhirukh_host::{reference, words};
 
 type Names = BTreeMap<String, usize>;
 
@@ -25,20 +25,30 @@ fn counted(before: &str, names: &[&str]) -> Vec<(String, usize)> {
     names.iter().enumerate().map(name).collect()
 }
 
+/// Where the second engine has each word, seen in the words of a result in which they all differ.
 fn words_of_a_result() -> Vec<(String, usize)> {
-    let names = [
-        "NUMBER",
-        "PLACE",
-        "STEPS",
-        "FIRINGS",
-        "IDENTIFIERS",
-        "STORED",
+    let result = Outcome {
+        number: 10,
+        place: 11,
+        steps: 12,
+        firings: 13,
+        identifiers: 14,
+        stored: 15,
+    };
+    let at = |word: u32| result.words().iter().position(|one| *one == word).unwrap();
+    let names: [(&str, usize); RESULT_WORDS] = [
+        ("NUMBER", at(result.number)),
+        ("PLACE", at(result.place)),
+        ("STEPS", at(result.steps)),
+        ("FIRINGS", at(result.firings)),
+        ("IDENTIFIERS", at(result.identifiers)),
+        ("STORED", at(result.stored)),
     ];
-    assert_eq!(names.len(), Outcome::GOOD.numbers().len());
+    let bound: [&str; BOUND_WORDS] = ["WEIGHT", "STEPS"];
     [
-        counted("", &names),
-        named("", &[("RESULT", names.len()), ("BOUND", 2)]),
-        counted("BOUND_", &["WEIGHT", "STEPS"]),
+        named("", &names),
+        named("", &[("RESULT", RESULT_WORDS), ("BOUND", BOUND_WORDS)]),
+        counted("BOUND_", &bound),
     ]
     .concat()
 }
@@ -72,10 +82,10 @@ fn numbers() -> Vec<(String, usize)> {
         "ZERO_WEIGHT",
         "NO_WEIGHT_LOST",
     ];
-    let numbers = ENDINGS.iter().chain(&REFUSALS);
-    assert_eq!(names.len(), numbers.clone().count());
+    let numbers = outcome::numbers();
+    assert_eq!(names.len(), numbers.len());
     let name = |(name, number): (&&str, &u32)| (name.to_string(), *number as usize);
-    names.iter().zip(numbers).map(name).collect()
+    names.iter().zip(&numbers).map(name).collect()
 }
 
 fn limits() -> Vec<(String, usize)> {
@@ -188,5 +198,19 @@ fn every_name_has_its_value() {
 fn every_number_and_nothing_else_says_what_its_place_is() {
     let told = definitions().filter(|definition| definition.ending().is_some());
     let told: Vec<u32> = told.map(|definition| definition.value as u32).collect();
-    assert_eq!(told, [&ENDINGS[..], &REFUSALS[..]].concat());
+    assert_eq!(told, outcome::numbers());
+}
+
+#[test]
+fn the_place_of_each_number_is_what_document_01_has_there() {
+    for number in outcome::numbers() {
+        let place = match number {
+            3 | 4 | 6 | 7 | 42 => Some("rule"),
+            16..=23 => Some("byte"),
+            33 => Some("goal fact"),
+            41 => Some("symbol"),
+            _ => None,
+        };
+        assert_eq!(words::place(number), place, "{}", number);
+    }
 }

@@ -47,15 +47,17 @@ gateway() {
     "${runner[@]}" "$1" > "$made/stdout" && cmp "$made/stdout" host/gateway.stdout
 }
 
-# The numbers of endings and refusals that the header names.
+# The numbers of endings and refusals: each line of the header that says what a place is names one.
 numbers() {
     sed -nE 's/^#define NADHIRUKH_[A-Z_]+ ([0-9]+)u +\/\*.*; place: .*/\1/p' include/nadhirukh.h
 }
 
 # The gateway has words for every number of the header, and for no other.
 endings() {
+    local places
+    places=$(grep -c '; place: ' include/nadhirukh.h) || return
     numbers > "$made/numbers"
-    [ "$(wc -l < "$made/numbers")" -eq 24 ] || { echo "library.sh: include/nadhirukh.h does not name 24 numbers"; return 1; }
+    [ "$(wc -l < "$made/numbers")" -eq "$places" ] || { echo "library.sh: not every place in the header stands beside a number"; return 1; }
     "${runner[@]}" "$made/gateway" endings > "$made/endings" && cut -d ' ' -f 1 "$made/endings" | cmp - "$made/numbers"
 }
 

@@ -5,6 +5,7 @@ use std::path::{Path, PathBuf};
 use std::process::Command;
 
 use nadhirukh_host::build::{goal, table_a};
+use nadhirukh_host::outcome::{ENDINGS, GOAL_REFUSALS, TABLE_REFUSALS, WEIGHT_REFUSALS};
 
 /// A folder of this test's own.
 fn folder(name: &str) -> PathBuf {
@@ -56,17 +57,19 @@ fn call_cases_hold_every_number_often_and_stay_short() {
     assert!(cases.len() < 1_500_000, "{} bytes", cases.len());
     assert_eq!(cases_in(&cases), lines.lines().count());
     assert!(count(&lines, "C") >= 450);
-    for number in 16..=23 {
+    for number in TABLE_REFUSALS {
         assert!(count(&lines, &format!("C {}", number)) >= 40);
     }
-    for number in 0..=7 {
+    for number in ENDINGS {
         assert!(count(&lines, &format!("R {}", number)) >= 25);
     }
-    for number in 32..=36 {
+    for number in GOAL_REFUSALS {
         assert!(count(&lines, &format!("R {}", number)) >= 30);
     }
     assert!(count(&lines, "W") >= 400);
-    for number in [0, 32, 33, 34, 40, 41, 42] {
+    // Weighing takes a goal, and neither limit nor answer buffer.
+    let weighings = [&[0][..], &GOAL_REFUSALS[..3], &WEIGHT_REFUSALS].concat();
+    for number in weighings {
         assert!(count(&lines, &format!("W {}", number)) >= 25);
     }
     let steps = |line: &str| line.split(' ').nth(3).map(|word| word.parse());

@@ -4,7 +4,7 @@ use std::collections::BTreeMap;
 
 use nadhirukh_host::cases::random::Random;
 use nadhirukh_host::cases::{any_case, edges, long, run_case, Call, Case};
-use nadhirukh_host::outcome::{ENDINGS, REFUSALS};
+use nadhirukh_host::outcome::{numbers, PAST_NUMBERS};
 use nadhirukh_host::reference::run::{admit, run_read};
 use nadhirukh_host::reference::step::{Pruning, Step};
 use nadhirukh_host::verdict::{self, Verdict, FILL};
@@ -23,7 +23,7 @@ fn plain_verdict(case: &Case) -> Option<Verdict> {
 
 #[test]
 fn the_plain_engine_agrees_and_every_number_occurs() {
-    let mut seen = [0_u32; 43];
+    let mut seen = [0_u32; PAST_NUMBERS];
     for seed in 0..CASES {
         let case = any_case(seed);
         let expected = verdict::reference(&case);
@@ -32,8 +32,8 @@ fn the_plain_engine_agrees_and_every_number_occurs() {
             assert_eq!(verdict, expected, "seed {}", seed);
         }
     }
-    for number in ENDINGS.iter().chain(&REFUSALS) {
-        let count = seen[*number as usize];
+    for number in numbers() {
+        let count = seen[number as usize];
         assert!(count >= 20, "number {} occurred {} times", number, count);
     }
 }

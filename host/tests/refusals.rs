@@ -3,13 +3,17 @@
 use nadhirukh_host::build::{alone, constant, goal, of, table, table_a, variable, Rule};
 use nadhirukh_host::build::{AT_MOST, SUM};
 use nadhirukh_host::format::{ANSWER_LEN, MAX_LIMIT};
+use nadhirukh_host::outcome::{COUNTS_FROM, RESULT_WORDS};
 use nadhirukh_host::{plain, reference};
 
 /// Both engines' number and place for a table.
 fn checks_to(table: &[u8]) -> (u32, u32) {
     let outcome = reference::check(table);
     assert_eq!(plain::check(table), outcome);
-    assert_eq!(outcome.numbers()[2..], [0; 4]);
+    assert_eq!(
+        outcome.words()[COUNTS_FROM..],
+        [0; RESULT_WORDS - COUNTS_FROM]
+    );
     (outcome.number, outcome.place)
 }
 
@@ -19,7 +23,10 @@ fn run_refused(table: &[u8], goal: &[u8], limit: u32, answer_len: usize) -> (u32
     let outcome = reference::run(table, goal, limit, &mut answer);
     assert_eq!(plain::run(table, goal, limit, &mut answer), outcome);
     assert!(answer.iter().all(|byte| *byte == 0xA5));
-    assert_eq!(outcome.numbers()[2..], [0; 4]);
+    assert_eq!(
+        outcome.words()[COUNTS_FROM..],
+        [0; RESULT_WORDS - COUNTS_FROM]
+    );
     (outcome.number, outcome.place)
 }
 

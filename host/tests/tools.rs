@@ -8,7 +8,7 @@ use std::process::Command;
 use nadhirukh_host::build::{
     alone, constant, goal, of, table, table_a, variable, Rule, GREATER, LESS, QUOTIENT, SUM,
 };
-use nadhirukh_host::outcome::{ENDINGS, REFUSALS};
+use nadhirukh_host::outcome::numbers;
 use nadhirukh_host::words;
 
 const SHOW: &str = env!("CARGO_BIN_EXE_show");
@@ -260,8 +260,8 @@ fn example_says_where_a_text_is_wrong_and_how_many_goals_there_are() {
 
 #[test]
 fn the_header_has_words_for_every_number() {
-    for number in ENDINGS.iter().chain(&REFUSALS) {
-        let meaning = words::meaning(*number).unwrap_or("");
+    for number in numbers() {
+        let meaning = words::meaning(number).unwrap_or("");
         assert!(!meaning.is_empty(), "{}", number);
     }
     assert_eq!(

@@ -4,14 +4,17 @@ use nadhirukh_host::build::{alone, constant, goal, table, variable, Rule};
 use nadhirukh_host::cases::random::Random;
 use nadhirukh_host::cases::{goals, tables};
 use nadhirukh_host::format::{ANSWER_LEN, GREATEST_BOUND, STORE};
-use nadhirukh_host::outcome::Outcome;
+use nadhirukh_host::outcome::{Outcome, COUNTS_FROM, RESULT_WORDS};
 use nadhirukh_host::{plain, reference};
 
 /// Number, place, W and bound.
 fn weighs(table: &[u8], weights: &[u8], goal: &[u8]) -> (u32, u32, u32, u32) {
     let weighing = reference::weigh(table, weights, goal);
     let outcome = weighing.outcome;
-    assert_eq!(outcome.numbers()[2..], [0; 4]);
+    assert_eq!(
+        outcome.words()[COUNTS_FROM..],
+        [0; RESULT_WORDS - COUNTS_FROM]
+    );
     (
         outcome.number,
         outcome.place,

@@ -5,18 +5,18 @@ use nadhirukh_host::build::{
     UNEQUAL,
 };
 use nadhirukh_host::format::{ANSWER_LEN, LONGEST_TABLE};
-use nadhirukh_host::outcome::Outcome;
+use nadhirukh_host::outcome::{Outcome, ResultWords};
 use nadhirukh_host::{plain, reference};
 
 /// The step limit where document 01 names none.
 const LIMIT: u32 = 1_000_000;
 
-/// Runs both engines; they agree, and the numbers and the answer are the ones expected.
-fn runs_to(table: &[u8], goal: &[u8], limit: u32, numbers: [u32; 6]) -> Vec<u8> {
+/// Runs both engines; they agree, and the words of the result are the ones expected. The answer.
+fn runs_to(table: &[u8], goal: &[u8], limit: u32, words: ResultWords) -> Vec<u8> {
     let mut answer = vec![0xA5; ANSWER_LEN];
     let mut plain_answer = answer.clone();
     let outcome = reference::run(table, goal, limit, &mut answer);
-    assert_eq!(outcome.numbers(), numbers);
+    assert_eq!(outcome.words(), words);
     assert_eq!(plain::run(table, goal, limit, &mut plain_answer), outcome);
     assert_eq!(plain_answer, answer);
     answer

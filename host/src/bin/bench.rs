@@ -7,7 +7,7 @@ use nadhirukh_host::bench::timing::{compare, Compared};
 use nadhirukh_host::build::table_a;
 use nadhirukh_host::cases::edges;
 use nadhirukh_host::format::{ANSWER_LEN, LONGEST_TABLE, MAX_LIMIT};
-use nadhirukh_host::outcome::Outcome;
+use nadhirukh_host::outcome::{Outcome, RESULT_WORDS};
 use nadhirukh_host::{ffi, plain};
 
 fn main() {
@@ -42,11 +42,11 @@ fn longest() -> Vec<u8> {
 }
 
 fn check(name: &str, table: &[u8]) {
-    let mut result = [0; 6];
+    let mut result = [0; RESULT_WORDS];
     ffi::check(table, &mut result);
     assert_eq!(plain::check(table), Outcome::from(result));
     let compared = compare(
-        || ffi::check(table, &mut [0; 6]),
+        || ffi::check(table, &mut [0; RESULT_WORDS]),
         || plain::check(table).number,
     );
     print(name, &Outcome::from(result), &compared);
@@ -56,12 +56,12 @@ fn run(load: &Load) {
     let (table, goal) = (&load.table, &load.goal);
     let mut answers = [[0; ANSWER_LEN]; 2];
     let [first, second] = &mut answers;
-    let mut result = [0; 6];
+    let mut result = [0; RESULT_WORDS];
     ffi::run(table, goal, MAX_LIMIT, first, &mut result);
     let outcome = plain::run(table, goal, MAX_LIMIT, second);
     assert_eq!((outcome, &*first), (Outcome::from(result), &*second));
     let compared = compare(
-        || ffi::run(table, goal, MAX_LIMIT, first, &mut [0; 6]),
+        || ffi::run(table, goal, MAX_LIMIT, first, &mut [0; RESULT_WORDS]),
         || plain::run(table, goal, MAX_LIMIT, second).number,
     );
     print(&load.name, &Outcome::from(result), &compared);

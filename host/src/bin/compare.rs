@@ -20,7 +20,7 @@ use std::thread;
 use std::time::{Duration, Instant};
 
 use nadhirukh_host::cases::{any_case, edges, finding, Call, Case};
-use nadhirukh_host::outcome::{ENDINGS, FINDINGS, REFUSALS};
+use nadhirukh_host::outcome::{findings, numbers, PAST_NUMBERS};
 use nadhirukh_host::tools::{self, Trouble};
 use nadhirukh_host::{stored, verdict};
 
@@ -54,8 +54,8 @@ struct Tally {
     cases: [u64; GROUPS.len()],
     differences: [u64; GROUPS.len()],
     /// How often each number occurred, and how often in a search for weights.
-    numbers: [u64; 43],
-    findings: [u64; 43],
+    numbers: [u64; PAST_NUMBERS],
+    findings: [u64; PAST_NUMBERS],
     /// What the first differences are.
     complaints: Vec<String>,
 }
@@ -205,8 +205,8 @@ impl Tally {
         Tally {
             cases: [0; GROUPS.len()],
             differences: [0; GROUPS.len()],
-            numbers: [0; 43],
-            findings: [0; 43],
+            numbers: [0; PAST_NUMBERS],
+            findings: [0; PAST_NUMBERS],
             complaints: Vec::new(),
         }
     }
@@ -256,9 +256,8 @@ impl Tally {
             println!("{}: {} cases, {} differ", name, cases, differences);
             failed += usize::from(differences > 0 || cases == 0);
         }
-        let all: Vec<u32> = ENDINGS.iter().chain(&REFUSALS).copied().collect();
-        let of_all = each_occurred("of all calls", &all, &self.numbers);
-        let of_find = each_occurred("of the search for weights", &FINDINGS, &self.findings);
+        let of_all = each_occurred("of all calls", &numbers(), &self.numbers);
+        let of_find = each_occurred("of the search for weights", &findings(), &self.findings);
         let complete = self.random_cases() == wanted && of_all && of_find;
         failed += usize::from(!complete);
         println!("{} passed, {} failed", GROUPS.len() + 1 - failed, failed);

@@ -74,7 +74,7 @@ fn lines(input: &[u8]) -> String {
     let (table, goal) = input.split_at(table_len(input).unwrap_or(input.len()));
     let case = Case::run(table.to_vec(), goal.to_vec(), LIMIT, ANSWER_LEN);
     let verdict = verdict::reference(&case);
-    let mut lines = words(verdict.outcome.numbers().iter().map(u32::to_string));
+    let mut lines = words(verdict.outcome.words().iter().map(u32::to_string));
     if verdict.outcome.number == 0 {
         let stored = verdict.outcome.stored as usize;
         for record in verdict.answer.chunks(STORED_RECORD_LEN).take(stored) {

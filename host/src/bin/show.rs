@@ -1,7 +1,7 @@
 //! `show FILE [LIMIT]`: reads a table followed by goal records from a file and prints the run
 //! step by step, each with the sizes of stack, store and history behind it. Of a run of many steps
 //! the first and the last ones are printed. Then come how often each rule fired, the ending in
-//! words, the six numbers, and the facts stored.
+//! words, the words of the result, and the facts stored.
 //!
 //! The status is 0 if the run is done. It is 1 for every other ending, for a refusal and for a file
 //! that cannot be read, and 2 for arguments other than these. Without LIMIT the step limit is that
@@ -69,9 +69,9 @@ fn run(bytes: &[u8], limit: u32) -> (String, Outcome) {
         Ok((table, goal)) => run_admitted(&table, &goal, limit),
         Err(refusal) => (String::new(), refusal.into(), String::new()),
     };
-    let numbers: Vec<String> = outcome.numbers().iter().map(u32::to_string).collect();
+    let result: Vec<String> = outcome.words().iter().map(u32::to_string).collect();
     lines += &format!("{}\n", words::ended(table, &outcome));
-    lines += &format!("{}\n", numbers.join(" "));
+    lines += &format!("{}\n", result.join(" "));
     (lines + &left, outcome)
 }
 

@@ -218,7 +218,7 @@ fn proved_ending(example: &Example, goal: &[Fact], run: &[String]) -> Tried<Endi
     run_ending(&printed).ok_or_else(|| format!("run printed {}", printed).into())
 }
 
-/// The ending in the lines of *run*: the six numbers, then identifier, symbol and arguments of
+/// The ending in the lines of *run*: the words of the result, then identifier, symbol and arguments of
 /// each fact.
 fn run_ending(printed: &str) -> Option<Ending> {
     let mut lines = printed.lines();

@@ -12,7 +12,7 @@ use std::time::Instant;
 use nadhirukh_host::example::{goal_bytes, in_folder, Example, ANY_ORDER};
 use nadhirukh_host::ffi;
 use nadhirukh_host::format::ANSWER_LEN;
-use nadhirukh_host::outcome::Outcome;
+use nadhirukh_host::outcome::{Outcome, RESULT_WORDS};
 use nadhirukh_host::plain;
 use nadhirukh_host::reference::check;
 use nadhirukh_host::reference::state::Fact;
@@ -92,7 +92,7 @@ fn swi_time(example: &Example, goal: &[Fact], file: &Path) -> Result<f64, Troubl
 /// The time of a run of the proved library, in microseconds: the whole call, checks included.
 fn proved_time(table: &[u8], goal: &[u8], expected: Outcome) -> f64 {
     let mut answer = vec![0; ANSWER_LEN];
-    let mut result = [0; 6];
+    let mut result = [0; RESULT_WORDS];
     let batch = |_| {
         let before = Instant::now();
         for _ in 0..RUNS {

@@ -8,7 +8,7 @@ use crate::format::{
 };
 use crate::outcome::{Outcome, Refusal};
 
-/// Checks a table: six zeros if it is good, else the refusal's number and place.
+/// Checks a table: zeros if it is good, else the refusal's number and place.
 pub fn check(bytes: &[u8]) -> Outcome {
     match read(bytes) {
         Ok(_) => Outcome::GOOD,
