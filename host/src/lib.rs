@@ -9,7 +9,7 @@
 //! - [`build`]: tables and goals in readable form, for tests and examples.
 //! - [`example`]: programs in readable text, with goals and what they must leave.
 //! - [`header`]: the numbers that the C header names.
-//! - [`words`]: the numbers of a result in words, from the C header.
+//! - [`words`]: numbers and places in words, from the C header.
 //! - [`tools`]: what the programs have in common: files by name, and how a program ends.
 //! - [`ending`]: how a run ends, with what does not depend on the order of partners.
 //! - [`swi`]: a table and goals as a program for SWI-Prolog's CHR library.

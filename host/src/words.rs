@@ -1,4 +1,4 @@
-//! The numbers of a result in words. The C header names them all, so the words are taken from there.
+//! Numbers and places in words. The C header says what each is, so the words are taken from there.
 
 use crate::format::{
     GUARD, KEPT, MAX_GUARDS, MAX_HEADS, MAX_ITEMS, MAX_RULES, MAX_SYMBOLS, REMOVED, RULE, SYMBOL,
