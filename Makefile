@@ -26,9 +26,10 @@ lib:
 memory:
 	@scripts/memory
 
-# The time of the calls against the plain engine of host/, as ratios in one process.
+# The time of the calls against the plain engine of host/, as ratios in one process: make bench OLD=ARCHIVE against an older library too.
+OLD ?=
 bench:
-	@scripts/bench
+	@scripts/bench "$(OLD)"
 
 # Every example on SWI-Prolog's CHR library and on the proved engine; the last line is 'N passed, M failed'.
 swi:

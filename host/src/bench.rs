@@ -1,4 +1,6 @@
-//! Measuring two engines against each other in one process: what they run, and how they are timed.
+//! Measuring engines against each other in one process: what they run, and how they are timed.
 
+#[cfg(feature = "library")]
+pub mod libraries;
 pub mod loads;
 pub mod timing;

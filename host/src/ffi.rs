@@ -14,11 +14,11 @@ compile_error!(
 /// Bytes before and after each buffer that no call may touch.
 const GUARD: usize = 64;
 /// What the words of a result hold before a call; every call writes all of them.
-const STALE: u32 = 0x5A5A_5A5A;
+pub(crate) const STALE: u32 = 0x5A5A_5A5A;
 
 extern "C" {
-    fn nadhirukh_check(table: *const u8, table_len: usize, result: *mut u32) -> u32;
-    fn nadhirukh_run(
+    pub(crate) fn nadhirukh_check(table: *const u8, table_len: usize, result: *mut u32) -> u32;
+    pub(crate) fn nadhirukh_run(
         table: *const u8,
         table_len: usize,
         goal: *const u8,

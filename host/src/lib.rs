@@ -13,7 +13,7 @@
 //! - [`tools`]: what the programs have in common: files by name, and how a program ends.
 //! - [`ending`]: how a run ends, with what does not depend on the order of partners.
 //! - [`swi`]: a table and goals as a program for SWI-Prolog's CHR library.
-//! - [`bench`]: what is measured, and how two engines are timed against each other.
+//! - [`bench`]: what is measured, and how engines are timed against each other.
 //! - [`cases`]: random cases, good, damaged and near every limit.
 //! - [`verdict`]: everything that a call gives back for a case, and the reference's verdict.
 //! - [`stored`]: the form of stored cases, and the line that a program has to print for each.

@@ -1,14 +1,20 @@
 //! `bench`: the proved library against the plain engine on the same loads, in one process, in
 //! turns. Prints, for each load, what the run came to, microseconds a call of both, and the
-//! library's share of the plain engine's time: the median and the middle half of the rounds.
+//! library's share of the plain engine's time: the median and the middle half of the rounds. With
+//! an older library (feature `old_library`) the same of that one, behind the rest of the line.
 
+use nadhirukh_host::bench::libraries::{Lent, Library, NEW, OLD};
 use nadhirukh_host::bench::loads::{chain, cycles, Load};
-use nadhirukh_host::bench::timing::{compare, Compared};
+use nadhirukh_host::bench::timing::{compare, worker, Compared};
 use nadhirukh_host::build::table_a;
 use nadhirukh_host::cases::edges;
 use nadhirukh_host::format::{ANSWER_LEN, LONGEST_TABLE, MAX_LIMIT};
-use nadhirukh_host::outcome::{Outcome, RESULT_WORDS};
-use nadhirukh_host::{ffi, plain};
+use nadhirukh_host::outcome::Outcome;
+use nadhirukh_host::plain;
+
+/// The places of the workers: the library, whose share of the others' time is asked for, is 0.
+const PLAIN: usize = 1;
+const OLDER: usize = 2;
 
 fn main() {
     heading("check");
@@ -27,11 +33,15 @@ fn main() {
 }
 
 fn heading(what: &str) {
+    let [names, lines] = match OLD {
+        Some(_) => [" old, µs | ratio to old | middle half |", "---|---|---|"],
+        None => ["", ""],
+    };
     println!(
-        "\n| {} | steps | firings | library, µs | plain, µs | ratio | middle half |",
-        what
+        "\n| {} | steps | firings | library, µs | plain, µs | ratio | middle half |{}",
+        what, names
     );
-    println!("|---|---|---|---|---|---|---|");
+    println!("|---|---|---|---|---|---|---|{}", lines);
 }
 
 /// The good table that is as long as a table can be.
@@ -42,41 +52,72 @@ fn longest() -> Vec<u8> {
 }
 
 fn check(name: &str, table: &[u8]) {
-    let mut result = [0; RESULT_WORDS];
-    ffi::check(table, &mut result);
-    assert_eq!(plain::check(table), Outcome::from(result));
-    let compared = compare(
-        || ffi::check(table, &mut [0; RESULT_WORDS]),
-        || plain::check(table).number,
+    measure(
+        name,
+        |library, lent| library.check(table, lent),
+        |_| plain::check(table),
     );
-    print(name, &Outcome::from(result), &compared);
 }
 
 fn run(load: &Load) {
     let (table, goal) = (&load.table, &load.goal);
-    let mut answers = [[0; ANSWER_LEN]; 2];
-    let [first, second] = &mut answers;
-    let mut result = [0; RESULT_WORDS];
-    ffi::run(table, goal, MAX_LIMIT, first, &mut result);
-    let outcome = plain::run(table, goal, MAX_LIMIT, second);
-    assert_eq!((outcome, &*first), (Outcome::from(result), &*second));
-    let compared = compare(
-        || ffi::run(table, goal, MAX_LIMIT, first, &mut [0; RESULT_WORDS]),
-        || plain::run(table, goal, MAX_LIMIT, second).number,
+    measure(
+        &load.name,
+        |library, lent| library.run(table, goal, MAX_LIMIT, lent),
+        |answer| plain::run(table, goal, MAX_LIMIT, answer),
     );
-    print(&load.name, &Outcome::from(result), &compared);
 }
 
-fn print(name: &str, outcome: &Outcome, compared: &Compared) {
-    println!(
-        "| {} | {} | {} | {:.2} | {:.2} | {:.2} | {:.2} to {:.2} |",
+/// A load, given as a library's call and the plain engine's, which writes to an answer. All have to
+/// give the same; an older library that does not is left out, and what it gives is said.
+fn measure(
+    name: &str,
+    call: impl Fn(&Library, &mut Lent) -> u32,
+    plain: impl Fn(&mut [u8]) -> Outcome,
+) {
+    let (mut new, mut old) = (Lent::default(), Lent::default());
+    let mut answer = [0; ANSWER_LEN];
+    call(&NEW, &mut new);
+    let outcome = plain(&mut answer);
+    assert_eq!((&outcome.words()[..], answer), (new.words(), new.answer));
+    let difference = OLD.and_then(|library| {
+        call(&library, &mut old);
+        new.difference(&old)
+    });
+    let mut workers = vec![
+        worker(|| call(&NEW, &mut new)),
+        worker(|| plain(&mut answer).number),
+    ];
+    if let (Some(library), None) = (&OLD, &difference) {
+        workers.push(worker(|| call(library, &mut old)));
+    }
+    print(name, &outcome, &compare(workers), difference);
+}
+
+fn print(name: &str, outcome: &Outcome, compared: &Compared, difference: Option<String>) {
+    print!(
+        "| {} | {} | {} | {:.2} |{}",
         name,
         outcome.steps,
         outcome.firings,
-        compared.first / 1e3,
-        compared.second / 1e3,
-        compared.ratio,
-        compared.middle[0],
-        compared.middle[1]
+        compared.time(0) / 1e3,
+        against(compared, PLAIN)
     );
+    match (OLD, difference) {
+        (None, _) => println!(),
+        (Some(_), None) => println!("{}", against(compared, OLDER)),
+        (Some(_), Some(difference)) => println!(" not comparable: {} | | |", difference),
+    }
+}
+
+/// The time of another worker, and the library's share of it.
+fn against(compared: &Compared, other: usize) -> String {
+    let ratio = compared.ratio(other);
+    format!(
+        " {:.2} | {:.2} | {:.2} to {:.2} |",
+        compared.time(other) / 1e3,
+        ratio.median,
+        ratio.middle[0],
+        ratio.middle[1]
+    )
 }
