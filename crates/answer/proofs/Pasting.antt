@@ -48,7 +48,10 @@ module _ {s : List ℕ} {at n : ℕ} {x u : List ℕ} (p : Pasted s at n x u) wh
   pub more-byte : (b : ℕ) → at + n + 1 ≤ length s → Pasted s at (n + 1) (x ++ (b ∷ [])) (set u (at + n) b)
   more-byte b h =
       record {
-        same = first-byte u (at + n) b (omega (arith, p .long)) ∙ ap (pasted (at + n) 1 (b ∷ [])) (p .same) ∙ pasted-next s at n x (p .sized) (omega arith) 1 (b ∷ []);
+        same =
+            first-byte u (at + n) b (omega (arith, p .long))
+            ∙ ap (pasted (at + n) 1 (b ∷ [])) (p .same)
+            ∙ pasted-next s at n x (p .sized) (omega arith) 1 (b ∷ []);
         sized = length-append x (b ∷ []) ∙ omega (arith, p .sized);
         long = length-set u (at + n) b ∙ p .long;
       }
@@ -57,7 +60,11 @@ module _ {s : List ℕ} {at n : ℕ} {x u : List ℕ} (p : Pasted s at n x u) wh
   unfolding bytes4
   more-word w h e =
       record {
-        same = e ∙ put-parts u (at + n) w (omega (arith, p .long)) ∙ ap (pasted (at + n) 4 (bytes4 w)) (p .same) ∙ pasted-next s at n x (p .sized) (omega arith) 4 (bytes4 w);
+        same =
+            e
+            ∙ put-parts u (at + n) w (omega (arith, p .long))
+            ∙ ap (pasted (at + n) 4 (bytes4 w)) (p .same)
+            ∙ pasted-next s at n x (p .sized) (omega arith) 4 (bytes4 w);
         sized = length-append x (bytes4 w) ∙ omega (arith, p .sized);
         long = ap length e ∙ length-put u (at + n) w ∙ p .long;
       }

@@ -5,18 +5,14 @@ use mathlib.Core.List.{List, [], _∷_, _++_, append-assoc, append-nil}
 use native.Mathlib.Omega.{arith}
 use native.Mathlib.Numerals.{add-one}
 use lib.IntN.{ℤ, pos}
-use lib.ListN.{length, getD, set, length-append, length-drop}
+use lib.ListN.{length, getD, set}
 use Rattle.wire.specs.Wire.{bytes4, bitsOf, putU32}
 use Rattle.wire.specs.Laws.{length-put}
 use Rattle.model.specs.declared.Stored.{Stored}
 use Rattle.model.specs.Answer.{storedBytes, answerBytes, answered}
-use Rattle.model.proofs.Results.{answer-bytes-length}
-use Rattle.search.specs.Views.{rowAt, rowFact, rowsFrom}
+use Rattle.model.proofs.Results.{answer-bytes-length, answered-length}
+use Rattle.store.specs.Views.{rowAt, rowFact, rowsFrom}
 use Rattle.answer.proofs.Pasting.{pasted, Pasted, pasted-next, byte-pasted, more-byte, more-word}
-
-pub answered-length : (ss : List Stored) (buffer : List ℕ) → 22 * length ss ≤ length buffer → length (answered ss buffer) ≡ length buffer
-unfolding answered
-answered-length ss buffer h = simp (length-append, length-drop) (omega (arith, answer-bytes-length ss))
 
 -- the seven stores of a row's record, in their order, paste it
 module _ (symbols ids : List ℕ) (args : List ℤ) (i : ℕ) where

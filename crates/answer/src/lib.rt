@@ -3,21 +3,24 @@ ghost use mathlib.Core.Path.{_≡_};
 ghost use mathlib.Core.List.{_++_};
 ghost use Prim.Native.Nat.{_+_, _*_, _≤_, _<_};
 ghost use lib.ListN.{length, take, drop};
+ghost use Rattle.model.specs.Limits.{storeRoom};
 ghost use Rattle.model.specs.Answer.{storedBytes, answered};
-ghost use Rattle.search.specs.Views.{rowAt, rowsFrom};
+ghost use Rattle.store.specs.Views.{rowAt, rowsFrom};
 use model::Answer;
+use model::Store;
 
 // The record of row i, from `at` on: "stored fact: identifier (4), symbol, four arguments".
 fn write_row<'a>(
     answer: &mut [u8],
     at: usize,
-    symbols: &'a [u8; 128],
-    ids: &'a [u32; 128],
-    args: &'a [i32; 512],
+    symbols: &'a [u8; Store::CAPACITY],
+    ids: &'a [u32; Store::CAPACITY],
+    args: &'a [i32; 4 * Store::CAPACITY],
     i: usize,
 )
-    requires { ⌜ (i < 128) × (at + 22 ≤ length (now answer)) ⌝ }
-    ensures { λ _. ⌜ now (answer .exit) ≡ take at (now (answer .entry)) ++ (storedBytes (rowAt (now (symbols .entry)) (now (ids .entry)) (now (args .entry)) i) ++ drop (at + 22) (now (answer .entry))) ⌝ }
+    requires { ⌜ (i < storeRoom) × (at + 22 ≤ length (now answer)) ⌝ }
+    ensures { λ _. ⌜ now (answer .exit) ≡ take at (now (answer .entry))
+        ++ (storedBytes (rowAt (now (symbols .entry)) (now (ids .entry)) (now (args .entry)) i) ++ drop (at + 22) (now (answer .entry))) ⌝ }
 {
     let id = ids[i];
     let symbol = symbols[i];
@@ -37,12 +40,12 @@ fn write_row<'a>(
 // The records of the first n rows, one behind the other; what lies behind them is kept.
 pub fn write_answer<'a>(
     answer: &mut [u8],
-    symbols: &'a [u8; 128],
-    ids: &'a [u32; 128],
-    args: &'a [i32; 512],
+    symbols: &'a [u8; Store::CAPACITY],
+    ids: &'a [u32; Store::CAPACITY],
+    args: &'a [i32; 4 * Store::CAPACITY],
     n: usize,
 )
-    requires { ⌜ (n ≤ 128) × (22 * n ≤ length (now answer)) ⌝ }
+    requires { ⌜ (n ≤ storeRoom) × (22 * n ≤ length (now answer)) ⌝ }
     ensures { λ _. ⌜ now (answer .exit) ≡ answered (rowsFrom (now (symbols .entry)) (now (ids .entry)) (now (args .entry)) 0 n) (now (answer .entry)) ⌝ }
 {
     let mut i = 0;

@@ -14,12 +14,15 @@ use Rattle.model.specs.declared.Verdict.the-variants.{Good, Refused}
 use Rattle.model.specs.Reading.{readOf}
 use Rattle.model.specs.Table.{tableOf}
 use Rattle.model.specs.Goal.{goalVerdict, goalOf}
+use Rattle.model.specs.Steps.{start}
 use Rattle.model.specs.Run.{Ended, run}
 use Rattle.model.specs.Answer.{answered}
-use Rattle.model.specs.Calls.{refusal, answerIf, outputOf, runOf}
+use Rattle.model.specs.Results.{refusal}
+use Rattle.model.specs.Calls.{answerIf, outputOf, runOf}
 use Rattle.model.proofs.Good.{refusal-small, goal-places}
-use Rattle.search.specs.Views.{rowsFrom}
-use Rattle.engine.specs.Arrays.{Finished, Passed, Ran}
+use Rattle.store.specs.Views.{rowsFrom}
+use Rattle.steps.specs.Arrays.{Finished}
+use Rattle.engine.specs.Called.{Passed, Ran}
 
 -- ---- the tests
 
@@ -66,7 +69,7 @@ module _ (t g : List ℕ) (limit : ℕ) (buffer : List ℕ) {reading : Reading} 
         pub passed : 2816 ≤ length buffer → Passed t reading g limit buffer
         passed h = record { read = re; goodTable = good; goodGoal = sym je ∙ fine; legal = legal; roomy = h }
 
-        pub all-passed : 2816 ≤ length buffer → {r : CallResult} {after : List ℕ} → Ran (outputOf (run (tableOf t) (goalOf g) limit) buffer) r after
+        pub all-passed : 2816 ≤ length buffer → {r : CallResult} {after : List ℕ} → Ran (outputOf (run (tableOf t) limit (start (goalOf g))) buffer) r after
             → Ran (runOf t g limit buffer) r after
         unfolding runOf
         all-passed h {r} {after} q = record {

@@ -12,7 +12,7 @@ use Rattle.model.specs.Weights.{weightIn, firstZero, firstHeavy}
 use Rattle.model.proofs.Every.{every, every-at}
 use Rattle.finding_weights.specs.declared.Change.{Change}
 use Rattle.finding_weights.specs.declared.Change.the-variants.{To, Nothing}
-use Rattle.finding_weights.specs.Search.{raiseOf, mostRaises, Sought, found, stopped, searchFrom, searchOf}
+use Rattle.finding_weights.specs.Search.{to, raiseOf, mostRaises, Sought, found, stopped, searchFrom, searchOf}
 use Rattle.finding_weights.proofs.Ends.{Heavy, raised, heavy-at, Ends, ends}
 
 -- ---- what holds of each weight, by its symbol
@@ -84,14 +84,15 @@ module _ (rules : List Rule) (symbols : ℕ) (declared : Declared rules symbols)
     more : getD ws s 1 < x
     small : x ≤ 255
 
-  adds : (ws : List ℕ) (r s x : ℕ) → length ws ≡ symbols → Heavy (weightIn ws) rules r → raiseOf ws (getD rules r noRule) ≡ To s x → Adds ws s x
+  adds : (ws : List ℕ) (r s x : ℕ) → length ws ≡ symbols → Heavy (weightIn ws) rules r → raiseOf ws (getD rules r noRule) ≡ to s x → Adds ws s x
   adds ws r s x l h e =
       let d = raised ws (getD rules r noRule) s x e in
       let all = every-at (λ (r : Rule). every (λ (h : Head). h .symbol .0 < symbols) (r .removed)) rules r noRule declared (h .inside) in
       let first : every (λ (h : Head). h .symbol .0 < symbols) (d .head ∷ d .rest) = rw (d .first) at all in
       record { inside = omega (arith, first .0, d .symbol); more = omega (arith, h .weighs, d .weight); small = d .small }
 
-  module _ (n : ℕ) (ws : List ℕ) (r s x : ℕ) (k : Kept symbols (suc n) ws) (h : Heavy (weightIn ws) rules r) (e : raiseOf ws (getD rules r noRule) ≡ To s x) where
+  module _ (n : ℕ) (ws : List ℕ) (r s x : ℕ) (k : Kept symbols (suc n) ws) (h : Heavy (weightIn ws) rules r)
+      (e : raiseOf ws (getD rules r noRule) ≡ to s x) where
     pub raise-keeps : Kept symbols n (set ws s x)
     raise-keeps =
         let a = adds ws r s x (k .long) h e in
@@ -102,7 +103,7 @@ module _ (rules : List Rule) (symbols : ℕ) (declared : Declared rules symbols)
         }
 
   -- with no raise left all weights are 255, so that none can be raised
-  pub all-raised : (ws : List ℕ) (r s x : ℕ) → Kept symbols 0 ws → Heavy (weightIn ws) rules r → raiseOf ws (getD rules r noRule) ≡ To s x → ⊥
+  pub all-raised : (ws : List ℕ) (r s x : ℕ) → Kept symbols 0 ws → Heavy (weightIn ws) rules r → raiseOf ws (getD rules r noRule) ≡ to s x → ⊥
   all-raised ws r s x k h e =
       let a = adds ws r s x (k .long) h e in
       let few = total-few (set ws s x) (set-each Weight ws s x (k .weights) (record { low = omega (arith, a .more); high = a .small })) in
@@ -138,10 +139,12 @@ module _ (rules : List Rule) (symbols : ℕ) (declared : Declared rules symbols)
     where
       go : (c : Change) → raiseOf ws (getD rules r noRule) ≡ c → raiseOf ws (getD rules r noRule) ≡ Nothing
       go (To s x) q =
-          let none-left : Kept symbols 0 ws = rw (e .stuck s x q) at (e .kept) in
-          absurd (all-raised rules symbols declared ws r s x none-left (heavy-at (weightIn ws) rules r (e .heavy)) q)
+          let none-left : Kept symbols 0 ws = rw (e .stuck (s .0) (x .0) q) at (e .kept) in
+          absurd (all-raised rules symbols declared ws r (s .0) (x .0) none-left (heavy-at (weightIn ws) rules r (e .heavy)) q)
       go Nothing q = q
 
   pub search-settles : Settled rules symbols (searchOf rules symbols)
   unfolding searchOf
-  search-settles = settled (searchFrom mostRaises rules (replicate symbols 1)) (ends rules (Kept symbols) (raise-keeps rules symbols declared) mostRaises (replicate symbols 1) (ones-kept symbols few))
+  search-settles =
+      settled (searchFrom mostRaises rules (replicate symbols 1))
+      (ends rules (Kept symbols) (raise-keeps rules symbols declared) mostRaises (replicate symbols 1) (ones-kept symbols few))

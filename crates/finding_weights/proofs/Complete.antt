@@ -3,25 +3,24 @@
 -- raise is never above 255, and the search can stop only where weights are found.
 use Prim.Native.Nat.{ℕ, zero, suc, _+_, _≤_, _<_}
 use mathlib.Core.Path.{_≡_, refl, sym, ap, subst, _∙_}
-use mathlib.Core.Bool.{Bool, true, false}
-use mathlib.Core.Option.{Option, none, some}
+use mathlib.Core.Option.{none}
 use mathlib.Core.List.{List, [], _∷_}
 use native.Mathlib.Omega.{arith}
-use lib.Dec.{ltb}
 use lib.ListN.{length, getD, set, replicate}
-use borrow.Author.Tests.{le-leb, ltb-true, eq-eqb}
+use borrow.Author.Tests.{le-leb, eq-eqb}
 use Rattle.model.specs.declared.Symbol.{Symbol}
 use Rattle.model.specs.declared.Verdict.the-variants.{Good}
 use Rattle.model.specs.Reading.{readOf}
 use Rattle.model.specs.Table.{Head, Rule, noRule, BodyItem, bodyFact, bodyFail, tableOf}
 use Rattle.model.specs.Weights.{weightIn, headsWeight, bodyWeight, firstHeavy}
-use Rattle.model.specs.Calls.{refusal}
+use Rattle.model.specs.Results.{refusal}
 use Rattle.model.proofs.Every.{every, every-at}
 use Rattle.model.proofs.Good.{good-table}
-use Rattle.finding_weights.specs.declared.Change.the-variants.{To}
-use Rattle.finding_weights.specs.Search.{raiseBy, raiseOf, mostRaises, Sought, found, stopped, searchFrom, searchOf}
+use Rattle.model.proofs.Weight.{Loses}
+use Rattle.model.proofs.Demand3.{all-lose}
+use Rattle.finding_weights.specs.Search.{to, raiseBy, raiseOf, mostRaises, Sought, found, stopped, searchFrom, searchOf}
 use Rattle.finding_weights.specs.Find.{Finding, finding, findEnded, findCount, findTable, findOf}
-use Rattle.finding_weights.proofs.Ends.{Heavy, lack, heavy-at, Ends, ends}
+use Rattle.finding_weights.proofs.Ends.{to-same, Heavy, lack, heavy-at, Ends, ends}
 use Rattle.finding_weights.proofs.Accepted.{Each, Weight, set-each, ones-each, Declared, Kept, raise-keeps, all-raised, ones-kept}
 use Rattle.finding_weights.proofs.Promise.{removed-declared}
 
@@ -53,19 +52,6 @@ body-below vs ws b [] = omega arith
 body-below vs ws b (bodyFact s es ∷ is) = omega (arith, b (s .0), body-below vs ws b is)
 body-below vs ws b (bodyFail ∷ is) = body-below vs ws b is
 
-abbrev Loses : (Symbol → ℕ) → Rule → Type 0
-Loses w r = bodyWeight w (r .body) < headsWeight w (r .removed)
-
-all-lose : (w : Symbol → ℕ) (k : ℕ) (rs : List Rule) → firstHeavy w k rs ≡ none → every (Loses w) rs
-unfolding firstHeavy
-all-lose w k [] e = tt
-all-lose w k (r ∷ rs) e = go (ltb (bodyWeight w (r .body)) (headsWeight w (r .removed))) refl e (all-lose w (suc k) rs)
-  where
-    go : (b : Bool) → ltb (bodyWeight w (r .body)) (headsWeight w (r .removed)) ≡ b → _≡_ {A = Option ℕ} (elim b [ true ↦ firstHeavy w (suc k) rs | false ↦ some k ]) none
-        → (firstHeavy w (suc k) rs ≡ none → every (Loses w) rs) → Loses w r × every (Loses w) rs
-    go true t q later = (ltb-true (bodyWeight w (r .body)) (headsWeight w (r .removed)) t, later q)
-    go false t q later = absurd (let z : _≡_ {A = ℕ} 0 1 = cc in omega arith)
-
 -- ---- a raise
 
 module _ (rules : List Rule) (one : OneRemoved rules) (vs : List ℕ) (weights : Each vs Weight) (loses : firstHeavy (weightIn vs) 0 rules ≡ none) where
@@ -90,17 +76,16 @@ module _ (rules : List Rule) (one : OneRemoved rules) (vs : List ℕ) (weights :
           every-at (Loses (weightIn vs)) rules r noRule (all-lose (weightIn vs) 0 rules loses) (h .inside),
         )
 
-    can-raise : raiseOf ws rule ≡ To (head .symbol .0) (weightIn ws (head .symbol) + lack ws rule)
+    can-raise : raiseOf ws rule ≡ to (head .symbol .0) (weightIn ws (head .symbol) + lack ws rule)
     unfolding raiseOf raiseBy
     can-raise =
         ap (raiseBy ws (lack ws rule)) (head-of .is)
         ∙ rw (le-leb (weightIn ws (head .symbol) + lack ws rule) 255 (omega (arith, just-enough, weights (head .symbol .0) .high)))
 
-    raise-below : (s x : ℕ) → raiseOf ws rule ≡ To s x → x ≤ getD vs s 1
+    raise-below : (s x : ℕ) → raiseOf ws rule ≡ to s x → x ≤ getD vs s 1
     raise-below s x e =
-        let a : s ≡ head .symbol .0 = cc can-raise in
-        let b : x ≡ weightIn ws (head .symbol) + lack ws rule = cc can-raise in
-        rw (a, b) just-enough
+        let same = to-same (sym e ∙ can-raise) in
+        rw (same .0, same .1) just-enough
 
 -- ---- the search
 
@@ -114,9 +99,11 @@ pub record Least (rules : List Rule) (symbols : ℕ) (vs : List ℕ) : Type 0 wh
   pub is : searchOf rules symbols ≡ found least
   pub below : Below vs least
 
-module _ (rules : List Rule) (symbols : ℕ) (declared : Declared rules symbols) (few : symbols ≤ 32) (one : OneRemoved rules) (vs : List ℕ) (weights : Each vs Weight)
+module _ (rules : List Rule) (symbols : ℕ) (declared : Declared rules symbols) (few : symbols ≤ 32) (one : OneRemoved rules) (vs : List ℕ)
+    (weights : Each vs Weight)
     (loses : firstHeavy (weightIn vs) 0 rules ≡ none) where
-  keeps : (n : ℕ) (ws : List ℕ) (r s x : ℕ) → Low symbols vs (suc n) ws → Heavy (weightIn ws) rules r → raiseOf ws (getD rules r noRule) ≡ To s x → Low symbols vs n (set ws s x)
+  keeps : (n : ℕ) (ws : List ℕ) (r s x : ℕ) → Low symbols vs (suc n) ws → Heavy (weightIn ws) rules r → raiseOf ws (getD rules r noRule) ≡ to s x
+      → Low symbols vs n (set ws s x)
   keeps n ws r s x l h e = record {
     kept = raise-keeps rules symbols declared n ws r s x (l .kept) h e;
     below = set-each (λ i w. w ≤ getD vs i 1) ws s x (l .below) (raise-below rules one vs weights loses ws (l .below) r h s x e);

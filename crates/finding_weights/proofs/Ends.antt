@@ -1,7 +1,7 @@
 -- How a search ends. The first rule that does not lose weight is a rule of the table whose removed heads weigh no more than its body; so a raise adds
 -- something to its first removed head. What holds at the start, and is kept by each raise of such a rule, holds at the end.
 use Prim.Native.Nat.{ℕ, zero, suc, _+_, _-_, _<_, _≤_}
-use mathlib.Core.Path.{_≡_, refl, subst}
+use mathlib.Core.Path.{_≡_, refl, sym, ap, subst}
 use mathlib.Core.Bool.{Bool, true, false, cond}
 use mathlib.Core.Option.{Option, none, some}
 use mathlib.Core.List.{List, [], _∷_}
@@ -12,9 +12,10 @@ use borrow.Author.Tests.{leb-true, ltb-false}
 use Rattle.model.specs.declared.Symbol.{Symbol}
 use Rattle.model.specs.Table.{Head, Rule, noRule}
 use Rattle.model.specs.Weights.{weightIn, headsWeight, bodyWeight, firstHeavy}
+use Rattle.finding_weights.specs.declared.Weight.{Weight}
 use Rattle.finding_weights.specs.declared.Change.{Change}
 use Rattle.finding_weights.specs.declared.Change.the-variants.{To, Nothing}
-use Rattle.finding_weights.specs.Search.{raiseBy, raiseOf, Sought, found, stopped, soughtAs, raiseThen, heavyThen, searchFrom}
+use Rattle.finding_weights.specs.Search.{to, raiseBy, raiseOf, Sought, found, stopped, soughtAs, raiseThen, heavyThen, searchFrom}
 
 -- ---- the first rule that does not lose weight
 
@@ -33,7 +34,8 @@ unfolding firstHeavy
 heavy-from w k [] n e = absurd (let z : _≡_ {A = ℕ} 0 1 = cc in omega arith)
 heavy-from w k (r ∷ rs) n e = go (ltb (bodyWeight w (r .body)) (headsWeight w (r .removed))) refl e (heavy-from w (suc k) rs n)
   where
-    go : (b : Bool) → ltb (bodyWeight w (r .body)) (headsWeight w (r .removed)) ≡ b → _≡_ {A = Option ℕ} (elim b [ true ↦ firstHeavy w (suc k) rs | false ↦ some k ]) (some n)
+    go : (b : Bool) → ltb (bodyWeight w (r .body)) (headsWeight w (r .removed)) ≡ b
+        → _≡_ {A = Option ℕ} (elim b [ true ↦ firstHeavy w (suc k) rs | false ↦ some k ]) (some n)
         → (firstHeavy w (suc k) rs ≡ some n → HeavyFrom w (suc k) rs n) → HeavyFrom w k (r ∷ rs) n
     go true t q later =
         let h = later q in
@@ -56,15 +58,23 @@ pub record RaisedBy (ws : List ℕ) (d : ℕ) (hs : List Head) (s x : ℕ) : Typ
   pub weight : x ≡ getD ws s 1 + d
   pub small : x ≤ 255
 
-pub raised-by : (ws : List ℕ) (d : ℕ) (hs : List Head) (s x : ℕ) → raiseBy ws d hs ≡ To s x → RaisedBy ws d hs s x
+-- a change says its symbol and its weight
+pub to-same : {a b s x : ℕ} → to a b ≡ to s x → (a ≡ s) × (b ≡ x)
+to-same {a} {b} {s} {x} e =
+    let symbols : _≡_ {A = Symbol} (record { 0 = a }) (record { 0 = s }) = cc in
+    let weights : _≡_ {A = Weight} (record { 0 = b }) (record { 0 = x }) = cc in
+    (ap (λ (z : Symbol). z .0) symbols, ap (λ (z : Weight). z .0) weights)
+
+pub raised-by : (ws : List ℕ) (d : ℕ) (hs : List Head) (s x : ℕ) → raiseBy ws d hs ≡ to s x → RaisedBy ws d hs s x
 unfolding raiseBy
 raised-by ws d [] s x e = absurd (let z : _≡_ {A = ℕ} 0 1 = cc in omega arith)
 raised-by ws d (h ∷ hs) s x e = go (leb (weightIn ws (h .symbol) + d) 255) refl e
   where
-    go : (b : Bool) → leb (weightIn ws (h .symbol) + d) 255 ≡ b → cond b (To (h .symbol .0) (weightIn ws (h .symbol) + d)) Nothing ≡ To s x → RaisedBy ws d (h ∷ hs) s x
+    go : (b : Bool) → leb (weightIn ws (h .symbol) + d) 255 ≡ b → cond b (to (h .symbol .0) (weightIn ws (h .symbol) + d)) Nothing ≡ to s x
+        → RaisedBy ws d (h ∷ hs) s x
     go true t q =
-        let y : s ≡ h .symbol .0 = cc in
-        let z : x ≡ weightIn ws (h .symbol) + d = cc in
+        let y : s ≡ h .symbol .0 = sym (to-same q .0) in
+        let z : x ≡ weightIn ws (h .symbol) + d = sym (to-same q .1) in
         record { head = h; rest = hs; first = refl; symbol = y; weight = rw y z; small = omega (arith, leb-true (weightIn ws (h .symbol) + d) 255 t) }
     go false t q = absurd (let z : _≡_ {A = ℕ} 0 1 = cc in omega arith)
 
@@ -72,7 +82,7 @@ raised-by ws d (h ∷ hs) s x e = go (leb (weightIn ws (h .symbol) + d) 255) ref
 abbrev pub lack : List ℕ → Rule → ℕ
 lack ws r = suc (bodyWeight (weightIn ws) (r .body)) - headsWeight (weightIn ws) (r .removed)
 
-pub raised : (ws : List ℕ) (r : Rule) (s x : ℕ) → raiseOf ws r ≡ To s x → RaisedBy ws (lack ws r) (r .removed) s x
+pub raised : (ws : List ℕ) (r : Rule) (s x : ℕ) → raiseOf ws r ≡ to s x → RaisedBy ws (lack ws r) (r .removed) s x
 unfolding raiseOf
 raised ws r = raised-by ws (lack ws r) (r .removed)
 
@@ -81,7 +91,7 @@ raised ws r = raised-by ws (lack ws r) (r .removed)
 module _ (rules : List Rule) (P : ℕ → List ℕ → Type 0) where
   -- each raise keeps P, and leaves a raise fewer
   abbrev pub Keeps : Type 0
-  Keeps = (n : ℕ) (ws : List ℕ) (r s x : ℕ) → P (suc n) ws → Heavy (weightIn ws) rules r → raiseOf ws (getD rules r noRule) ≡ To s x → P n (set ws s x)
+  Keeps = (n : ℕ) (ws : List ℕ) (r s x : ℕ) → P (suc n) ws → Heavy (weightIn ws) rules r → raiseOf ws (getD rules r noRule) ≡ to s x → P n (set ws s x)
 
   pub record Found (ws : List ℕ) : Type 0 where
     pub left : ℕ
@@ -93,7 +103,7 @@ module _ (rules : List Rule) (P : ℕ → List ℕ → Type 0) where
     pub left : ℕ
     pub kept : P left ws
     pub heavy : firstHeavy (weightIn ws) 0 rules ≡ some r
-    pub stuck : (s x : ℕ) → raiseOf ws (getD rules r noRule) ≡ To s x → left ≡ 0
+    pub stuck : (s x : ℕ) → raiseOf ws (getD rules r noRule) ≡ to s x → left ≡ 0
 
   abbrev pub Ends : Sought → Type 0
   Ends (found ws) = Found ws
@@ -106,9 +116,10 @@ module _ (rules : List Rule) (P : ℕ → List ℕ → Type 0) where
     no-raise-left ws p (some r) e = record { left = 0; kept = p; heavy = e; stuck = λ s x q. refl }
 
     module _ (n : ℕ) (later : (ws : List ℕ) → P n ws → Ends (searchFrom n rules ws)) (ws : List ℕ) (p : P (suc n) ws) where
-      raise-ends : (r : ℕ) → firstHeavy (weightIn ws) 0 rules ≡ some r → (c : Change) → raiseOf ws (getD rules r noRule) ≡ c → Ends (raiseThen ws r (searchFrom n rules) c)
+      raise-ends : (r : ℕ) → firstHeavy (weightIn ws) 0 rules ≡ some r → (c : Change) → raiseOf ws (getD rules r noRule) ≡ c
+          → Ends (raiseThen ws r (searchFrom n rules) c)
       unfolding raiseThen
-      raise-ends r e (To s x) q = later (set ws s x) (keeps n ws r s x p (heavy-at (weightIn ws) rules r e) q)
+      raise-ends r e (To s x) q = later (set ws (s .0) (x .0)) (keeps n ws r (s .0) (x .0) p (heavy-at (weightIn ws) rules r e) q)
       raise-ends r e Nothing q = record { left = suc n; kept = p; heavy = e; stuck = λ s x z. absurd (let y : _≡_ {A = ℕ} 0 1 = cc in omega arith) }
 
       heavy-ends : (o : Option ℕ) → firstHeavy (weightIn ws) 0 rules ≡ o → Ends (heavyThen rules ws (searchFrom n rules) o)

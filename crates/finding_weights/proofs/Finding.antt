@@ -8,16 +8,18 @@ use native.Mathlib.Omega.{arith}
 use lib.Dec.{eqb}
 use lib.ListN.{length, take, drop, replicate, length-replicate, drop-of-length-le}
 use lib.Seq.{take-length}
+use Rattle.model.specs.declared.RuleNumber.{RuleNumber}
 use Rattle.model.specs.declared.CallResult.{CallResult}
 use Rattle.model.specs.declared.Reading.{Reading}
 use Rattle.model.specs.declared.Verdict.the-variants.{Good, Refused}
 use Rattle.model.specs.Reading.{readOf}
 use Rattle.model.specs.Table.{tableOf}
-use Rattle.model.specs.Calls.{refusal}
-use Rattle.weighing.specs.declared.First.{First}
-use Rattle.weighing.specs.declared.First.the-variants.{At, Nothing}
-use Rattle.weighing.specs.Views.{Known, firstOf}
-use Rattle.weighing.proofs.Chain.{verdict-read, count-same, count-differs}
+use Rattle.model.specs.Results.{refusal}
+use Rattle.weighing.specs.declared.FirstRule.{FirstRule}
+use Rattle.weighing.specs.declared.FirstRule.the-variants.{At, Nothing}
+use Rattle.weighing.specs.Views.{Known, firstRule}
+use Rattle.table.proofs.Verdicts.{verdict-read}
+use Rattle.weighing.proofs.Chain.{count-same, count-differs}
 use Rattle.weighing.proofs.Turns.{known-good}
 use Rattle.finding_weights.specs.Search.{soughtAs, mostRaises, searchFrom, searchOf}
 use Rattle.finding_weights.specs.Find.{Begins, Gives, findEnded, findCount, findTable, findOf}
@@ -38,14 +40,16 @@ module _ {t : List ℕ} {r : Reading} {own buffer : List ℕ} (b : Begins t r ow
   unfolding searchOf
   whole = ap (searchFrom mostRaises (tableOf t .rules)) (b .ones ∙ ap (λ (r : Reading). replicate (r .symbols) 1) (b .known .same))
 
-  module _ {f : First} (ws : List ℕ) {res : CallResult} where
-    pub ended-found : f ≡ Nothing → soughtAs ws (firstOf f) ≡ searchFrom mostRaises (tableOf t .rules) own → res ≡ refusal 0 0 → {out : List ℕ} → out ≡ ws → Gives (findCount t buffer true) res out
-    unfolding findCount findEnded soughtAs firstOf
-    ended-found q e d c = rw (← (ap (λ (x : First). soughtAs ws (firstOf x)) (sym q) ∙ e ∙ whole)) (record { result = d; bytes = c })
+  module _ {f : FirstRule} (ws : List ℕ) {res : CallResult} where
+    pub ended-found : f ≡ Nothing → soughtAs ws (firstRule f) ≡ searchFrom mostRaises (tableOf t .rules) own → res ≡ refusal 0 0 → {out : List ℕ} → out ≡ ws
+        → Gives (findCount t buffer true) res out
+    unfolding findCount findEnded soughtAs firstRule
+    ended-found q e d c = rw (← (ap (λ (x : FirstRule). soughtAs ws (firstRule x)) (sym q) ∙ e ∙ whole)) (record { result = d; bytes = c })
 
-    pub ended-stopped : {i : ℕ} → f ≡ At i → soughtAs ws (firstOf f) ≡ searchFrom mostRaises (tableOf t .rules) own → res ≡ refusal 42 i → Gives (findCount t buffer true) res buffer
-    unfolding findCount findEnded soughtAs firstOf
-    ended-stopped q e d = rw (← (ap (λ (x : First). soughtAs ws (firstOf x)) (sym q) ∙ e ∙ whole)) (record { result = d; bytes = refl })
+    pub ended-stopped : {n : RuleNumber} → f ≡ At n → soughtAs ws (firstRule f) ≡ searchFrom mostRaises (tableOf t .rules) own → res ≡ refusal 42 (n .0)
+        → Gives (findCount t buffer true) res buffer
+    unfolding findCount findEnded soughtAs firstRule
+    ended-stopped q e d = rw (← (ap (λ (x : FirstRule). soughtAs ws (firstRule x)) (sym q) ∙ e ∙ whole)) (record { result = d; bytes = refl })
 
 -- ---- 40
 
@@ -65,13 +69,15 @@ module _ {t : List ℕ} {r : Reading} (k : Known t r) where
     unfolding findCount
     other-count h d = rw (count-differs k buffer h) (record { result = d; bytes = refl })
 
-    pub same-count : length buffer ≡ r .symbols → {out : List ℕ} → Gives (findCount t buffer true) res out → Gives (findCount t buffer (eqb (length buffer) (readOf t .symbols))) res out
+    pub same-count : length buffer ≡ r .symbols → {out : List ℕ} → Gives (findCount t buffer true) res out
+        → Gives (findCount t buffer (eqb (length buffer) (readOf t .symbols))) res out
     same-count h g = rw (count-same k buffer h) g
 
 -- ---- the table
 
 module _ (t buffer : List ℕ) {r : Reading} (e : r ≡ readOf t) {res : CallResult} where
-  pub table-good : r .verdict ≡ Good → {out : List ℕ} → Gives (findCount t buffer (eqb (length buffer) (readOf t .symbols))) res out → Gives (findOf t buffer) res out
+  pub table-good : r .verdict ≡ Good → {out : List ℕ} → Gives (findCount t buffer (eqb (length buffer) (readOf t .symbols))) res out
+      → Gives (findOf t buffer) res out
   unfolding findOf findTable
   table-good q g = rw (verdict-read t e q) g
 

@@ -14,7 +14,8 @@ use Rattle.model.specs.declared.Verdict.the-variants.{Good, Refused}
 use Rattle.model.specs.Reading.{readOf}
 use Rattle.model.specs.Table.{Head, Rule, heads, tableOf}
 use Rattle.model.specs.Goal.{goalVerdict}
-use Rattle.model.specs.Calls.{refusal, weighed, weighGoal, weighRules, weighZero, weighCount, weighTable, weighOf}
+use Rattle.model.specs.Results.{refusal}
+use Rattle.model.specs.Calls.{weighed, weighGoal, weighRules, weighZero, weighCount, weighTable, weighOf}
 use Rattle.model.proofs.Every.{every, every-right, every-weaken}
 use Rattle.model.proofs.Good.{GoodTable, good-table, refusal-small, goal-places}
 use Rattle.model.proofs.Decoded.{table-symbols, every-head-declared}
@@ -26,7 +27,8 @@ use Rattle.finding_weights.proofs.Accepted.{Declared, Accepted, Stuck, 
 pub removed-declared : (t : List ℕ) → GoodTable t → Declared (tableOf t .rules) (readOf t .symbols)
 removed-declared t g =
     rw (← table-symbols t)
-    (every-weaken (λ (r : Rule). every (λ (h : Head). h .symbol .0 < tableOf t .symbols) (heads r)) (λ (r : Rule). every (λ (h : Head). h .symbol .0 < tableOf t .symbols) (r .removed))
+    (every-weaken (λ (r : Rule). every (λ (h : Head). h .symbol .0 < tableOf t .symbols) (heads r))
+    (λ (r : Rule). every (λ (h : Head). h .symbol .0 < tableOf t .symbols) (r .removed))
     (λ r. every-right (λ (h : Head). h .symbol .0 < tableOf t .symbols) (r .kept) (r .removed)) (tableOf t .rules) (every-head-declared t g))
 
 -- ---- what each number says
@@ -60,7 +62,8 @@ module _ (t buffer : List ℕ) where
   unfolding findCount
   count-says g true =
       let k = good-table t g in
-      ended-says g (searchOf (tableOf t .rules) (readOf t .symbols)) (search-settles (tableOf t .rules) (readOf t .symbols) (removed-declared t k) (k .fewSymbols))
+      ended-says g (searchOf (tableOf t .rules) (readOf t .symbols))
+      (search-settles (tableOf t .rules) (readOf t .symbols) (removed-declared t k) (k .fewSymbols))
   count-says g false = refused-says 40 0 (λ e. omega arith) (λ e. omega arith)
 
   table-says : (v : Verdict) → readOf t .verdict ≡ v → Says t buffer (findTable t buffer v)

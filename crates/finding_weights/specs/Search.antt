@@ -8,13 +8,19 @@ use lib.Dec.{leb}
 use lib.ListN.{getD, set, replicate}
 use Rattle.model.specs.Table.{Head, Rule, noRule}
 use Rattle.model.specs.Weights.{weightIn, headsWeight, bodyWeight, firstHeavy}
+use Rattle.model.specs.declared.Symbol.{Symbol}
+use Rattle.finding_weights.specs.declared.Weight.{Weight}
 use Rattle.finding_weights.specs.declared.Change.{Change}
 use Rattle.finding_weights.specs.declared.Change.the-variants.{To, Nothing}
+
+-- symbol s gets the weight x
+abbrev pub to : ℕ → ℕ → Change
+to s x = To (record { 0 = s }) (record { 0 = x })
 
 -- the first of these heads has its symbol raised by d: not where there is none, and not above 255
 unfoldable pub raiseBy : List ℕ → ℕ → List Head → Change
 raiseBy ws d [] = Nothing
-raiseBy ws d (h ∷ hs) = cond (leb (weightIn ws (h .symbol) + d) 255) (To (h .symbol .0) (weightIn ws (h .symbol) + d)) Nothing
+raiseBy ws d (h ∷ hs) = cond (leb (weightIn ws (h .symbol) + d) 255) (to (h .symbol .0) (weightIn ws (h .symbol) + d)) Nothing
 
 unfoldable pub raiseOf : List ℕ → Rule → Change
 raiseOf ws r = raiseBy ws (suc (bodyWeight (weightIn ws) (r .body)) - headsWeight (weightIn ws) (r .removed)) (r .removed)
@@ -30,7 +36,7 @@ soughtAs ws none = found ws
 soughtAs ws (some r) = stopped r ws
 
 unfoldable pub raiseThen : List ℕ → ℕ → (List ℕ → Sought) → Change → Sought
-raiseThen ws r more (To s w) = more (set ws s w)
+raiseThen ws r more (To s w) = more (set ws (s .0) (w .0))
 raiseThen ws r more Nothing = stopped r ws
 
 unfoldable pub heavyThen : List Rule → List ℕ → (List ℕ → Sought) → Option ℕ → Sought

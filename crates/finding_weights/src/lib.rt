@@ -8,23 +8,26 @@ ghost use lib.Dec.{eqb};
 ghost use lib.ListN.{length};
 ghost use Rattle.model.specs.Reading.{readOf};
 ghost use Rattle.model.specs.Table.{tableOf, ruleOf};
-ghost use Rattle.weighing.specs.Views.{Known, Lies, firstOf};
+ghost use Rattle.weighing.specs.Views.{Known, Lies, firstRule};
 ghost use Rattle.finding_weights.specs.Search.{mostRaises, raiseOf, soughtAs, searchFrom};
 ghost use Rattle.finding_weights.specs.Find.{Begins, Gives, findCount, findOf};
 use model::CallResult;
 use model::Reading;
 use model::RuleShape;
 use model::Symbol;
+use model::Table;
 use model::Verdict;
-use weighing::First;
-use weighing::bodies;
+use records::geometry;
+use records::geometry::HeadBytes;
+use weighing::FirstRule;
 use weighing::goals;
-use weighing::heads;
 use weighing::rules;
+
+pub struct Weight(pub u8);
 
 // A symbol and its new weight.
 pub enum Change {
-    To(u8, u8),
+    To(Symbol, Weight),
     Nothing,
 }
 
@@ -40,47 +43,45 @@ fn deficit(body: u32, removed: u32) -> u32
 }
 
 fn raise(table: &[u8], weights: &[u8], shape: RuleShape) -> Change
-    requires { ⌜ Lies shape ⌝ }
+    requires { ⌜ Lies (now table) shape ⌝ }
     ensures { λ r. ⌜ r ≡ raiseOf (now (weights .entry)) (ruleOf (now (table .entry)) shape) ⌝ }
 {
-    let from = shape.start as usize + 1 + 22 * (shape.kept as usize);
-    let count = shape.heads - shape.kept;
-    let removed = heads::heads_weight(table, weights, from, count);
-    let body = bodies::body_weight(table, weights, rules::items_start(shape), shape.items);
-    let by = deficit(body, removed);
-    let symbol = wire::byte(table, from + 1);
-    let weight = goals::weight_of(weights, Symbol(symbol)) + by;
-    if count == 0 {
+    let sides = rules::rule_weights(table, weights, shape);
+    let by = deficit(sides.body, sides.removed);
+    let from = geometry::head_start(shape, shape.kept as usize);
+    let symbol = Symbol(wire::byte(table, from + HeadBytes::SYMBOL));
+    let weight = goals::weight_of(weights, symbol) + by;
+    if shape.heads == shape.kept {
         return Change::Nothing;
     }
     if 255 < weight {
         return Change::Nothing;
     }
-    Change::To(symbol, weight as u8)
+    Change::To(symbol, Weight(weight as u8))
 }
 
 // Raises these weights until every rule loses weight, or the first that does not cannot be raised. Answers with that rule.
-fn search(table: &[u8], reading: Reading, weights: &mut [u8]) -> First
+fn search(table: &[u8], reading: Reading, weights: &mut [u8]) -> FirstRule
     requires { ⌜ Known (now table) reading × (length (now weights) ≡ reading .symbols) ⌝ }
-    ensures { λ r. ⌜ soughtAs (now (weights .exit)) (firstOf r) ≡ searchFrom mostRaises (tableOf (now (table .entry)) .rules) (now (weights .entry)) ⌝ }
+    ensures { λ r. ⌜ soughtAs (now (weights .exit)) (firstRule r) ≡ searchFrom mostRaises (tableOf (now (table .entry)) .rules) (now (weights .entry)) ⌝ }
 {
     let mut left: usize = 8128;
     while 0 < left {
         left -= 1;
         match rules::first_heavy(table, weights, reading) {
-            First::Nothing => {
-                return First::Nothing;
+            FirstRule::Nothing => {
+                return FirstRule::Nothing;
             }
-            First::At(rule) => {
-                let i = rule as usize;
+            FirstRule::At(rule) => {
+                let i = rule.0 as usize;
                 let shape = reading.shapes[i];
                 match raise(table, weights, shape) {
                     Change::To(symbol, weight) => {
-                        let s = symbol as usize;
-                        weights[s] = weight;
+                        let s = symbol.0 as usize;
+                        weights[s] = weight.0;
                     }
                     Change::Nothing => {
-                        return First::At(rule);
+                        return FirstRule::At(rule);
                     }
                 }
             }
@@ -102,24 +103,25 @@ fn find_from(table: &[u8], reading: Reading, own: &mut [u8], weights: &mut [u8])
     ensures { λ r. ⌜ Gives (findCount (now (table .entry)) (now (weights .entry)) true) r (now (weights .exit)) ⌝ }
 {
     match search(table, reading, own) {
-        First::Nothing => {
+        FirstRule::Nothing => {
             write(own, weights);
-            table::refusal(0, 0)
+            CallResult::refusal(0, 0)
         }
-        First::At(rule) => table::refusal(42, rule),
+        FirstRule::At(rule) => CallResult::refusal(42, rule.0 as u32),
     }
 }
 
 // 40: "weight count differs from symbols".
 fn find_count(table: &[u8], reading: Reading, weights: &mut [u8]) -> CallResult
     requires { ⌜ Known (now table) reading ⌝ }
-    ensures { λ r. ⌜ Gives (findCount (now (table .entry)) (now (weights .entry)) (eqb (length (now (weights .entry))) (readOf (now (table .entry)) .symbols))) r (now (weights .exit)) ⌝ }
+    ensures { λ r. ⌜ Gives (findCount (now (table .entry)) (now (weights .entry)) (eqb (length (now (weights .entry))) (readOf (now (table .entry)) .symbols)))
+        r (now (weights .exit)) ⌝ }
 {
     let symbols = reading.symbols as usize;
     if weights.len() != symbols {
-        return table::refusal(40, 0);
+        return CallResult::refusal(40, 0);
     }
-    let mut own = [1u8; 32];
+    let mut own = [1u8; Table::SYMBOLS];
     find_from(table, reading, &mut own[0..symbols], weights)
 }
 
@@ -132,6 +134,6 @@ pub fn find_weights(table: &[u8], weights: &mut [u8]) -> CallResult
     let verdict = reading.verdict;
     match verdict {
         Verdict::Good => find_count(table, reading, weights),
-        Verdict::Refused(n, p) => table::refusal(n, p as u32),
+        Verdict::Refused(n, p) => CallResult::refusal(n, p as u32),
     }
 }

@@ -8,25 +8,30 @@ use lib.Dec.{T, eqb}
 use lib.ListN.{length, replicate}
 use Rattle.model.specs.declared.CallResult.{CallResult}
 use Rattle.model.specs.Calls.{RunOutput, runOf}
-use Rattle.model.proofs.Build.{Bytes, _then_, Term, var, num, only, op, symbol, rule, kept, removed, test, adds, failing, finish, fact, stored, times, zeros}
+use Rattle.model.proofs.Build.{Bytes, _then_, Term, var, num, only, op, symbol, rule, kept, removed, test, adds, failing, finish, fact, stored}
+use Rattle.model.proofs.Build.{times, zeros}
 use Rattle.model.specs.Variables.{isVariable, headHas, inHeads, strangeSlot, strangeExpression, strangeGuard, strangeFact, strange}
 use Rattle.model.specs.Reading.{behind, fieldsOf, orderedOf, testedOf, recordOf, noted, ended, goOn, readFrom, readOf}
 use Rattle.model.specs.Goal.{factAt, factsFrom, laterBad, laterPlacesBad, goalFactBad, factsVerdict, goalVerdict, goalOf}
 use Rattle.model.specs.declared.Weighing.{Weighing}
 use Rattle.model.specs.Weights.{goalWeight, headsWeight, bodyWeight, bodyFacts, mostPlaces, mostFacts, stepBound, firstZero, firstHeavy}
 use Rattle.model.specs.Calls.{verdictResult, checkOf, outputOf, weighed, weighOf}
-use Rattle.model.specs.Search.{isAmong, four, firedOf, sameIds, sameFired, inHistory, firstOf, storedFact, mayStand, complete, candidate, search, firstInstance}
+use Rattle.model.specs.Search.{isAmong, four, firedOf, sameIds, sameFired, inHistory, firstOf, storedFact, mayStand, complete, candidate}
+use Rattle.model.specs.Search.{search, firstInstance}
 use Rattle.model.specs.Guards.{variableValue, slotValue, expressionValue, comparisonValue, guardValue}
-use Rattle.model.specs.Table.{headAt, guardAt, bodyFactAt, isFact, itemAt, behindItem, headsFrom, guardsFrom, itemsFrom, ruleOf, tableBy, tableOf, ruleAt, placesIn, placesFrom, places}
+use Rattle.model.specs.Table.{headAt, guardAt, bodyFactAt, isFact, itemAt, behindItem, headsFrom, guardsFrom, itemsFrom, ruleOf, tableBy}
+use Rattle.model.specs.Table.{tableOf, ruleAt, placesIn, placesFrom, places}
 use Rattle.model.specs.Answer.{storedBytes, answerBytes, answered}
-use Rattle.model.specs.Run.{endedAs, runFrom, run}
+use Rattle.model.specs.Run.{endedAs, runWith, run}
 use Rattle.model.specs.Matching.{withVariable, matchVariable, matchSlot, andSlot, matchSlots, matchHead}
 use Rattle.model.specs.Records.{kindOf, outOfOrder}
-use Rattle.model.specs.Steps.{start, argumentValues, itemEntry, bodyEntries, keep, gone, without, names, pruned, activated, advanced, dropped, isRemoved, fired, stepItem}
+use Rattle.model.specs.Steps.{start, argumentValues, itemEntry, bodyEntries, keep, gone, without, names, pruned, activated, advanced, dropped}
+use Rattle.model.specs.Steps.{isRemoved, fired, stepWith}
 use Rattle.model.specs.Fields.{placeBad, arityAt, placesBad, topOf, expressionBad, argumentsBad, headBad, guardBad, bodyFactBad, badField}
 use Rattle.model.specs.Slots.{slotBy, slotAt, expressionAt}
 use Rattle.wire.specs.Wire.{u32At, signedOf, bitsOf, i32At, bytes4}
-use Rattle.numbers.specs.Numbers.{inRange, exact, unlessZero, sumOf, differenceOf, productOf, quotientOf, remainderOf, operate, onNumbers, evaluate, holds, judge, compare}
+use Rattle.numbers.specs.Numbers.{inRange, exact, unlessZero, sumOf, differenceOf, productOf, quotientOf, remainderOf, operate, onNumbers, evaluate}
+use Rattle.numbers.specs.Numbers.{holds, judge, compare}
 
 abbrev X : Term
 X = var 0
@@ -148,11 +153,11 @@ bare s = fact s []
 -- ---- the cases
 
 pub data Case : Type 0 where
-  -- table, goal, step limit, length of the answer buffer; the six numbers, and what is written
+  -- table, goal, step limit, length of the answer buffer; the result, and what is written
   runs : Bytes → Bytes → ℕ → ℕ → List ℕ → Bytes → Case
-  -- table; the six numbers
+  -- table; the result
   checks : Bytes → List ℕ → Case
-  -- table, weights, goal; the six numbers, W and the bound
+  -- table, weights, goal; the result, W and the bound
   weighs : Bytes → Bytes → Bytes → List ℕ → Case
 
 -- a run with room for its answer
@@ -288,5 +293,15 @@ allAgree [] = true
 allAgree (c ∷ cs) = agrees c && allAgree cs
 
 pub workedRuns : T (allAgree cases)
-unfolding tableA mu copies pairs divides counts negative twoB minus triangles partners fours undone ratios works repeats fourTests failsFirst renames halves grows notes bare doubled most cases same numbersOf ran weighedAs agrees allAgree isVariable headHas inHeads strangeSlot strangeExpression strangeGuard strangeFact strange behind fieldsOf orderedOf testedOf recordOf noted ended goOn readFrom readOf factAt factsFrom laterBad laterPlacesBad goalFactBad factsVerdict goalVerdict goalOf verdictResult checkOf outputOf runOf weighed weighOf goalWeight headsWeight bodyWeight bodyFacts mostPlaces mostFacts stepBound firstZero firstHeavy isAmong four firedOf sameIds sameFired inHistory firstOf storedFact mayStand complete candidate search firstInstance variableValue slotValue expressionValue comparisonValue guardValue headAt guardAt bodyFactAt isFact itemAt behindItem headsFrom guardsFrom itemsFrom ruleOf tableBy tableOf ruleAt placesIn placesFrom places storedBytes answerBytes answered endedAs runFrom run withVariable matchVariable matchSlot andSlot matchSlots matchHead kindOf outOfOrder start argumentValues itemEntry bodyEntries keep gone without names pruned activated advanced dropped isRemoved fired stepItem placeBad arityAt placesBad topOf expressionBad argumentsBad headBad guardBad bodyFactBad badField slotBy slotAt expressionAt u32At signedOf bitsOf i32At bytes4 inRange exact unlessZero sumOf differenceOf productOf quotientOf remainderOf operate onNumbers evaluate holds judge compare
+unfolding tableA mu copies pairs divides counts negative twoB minus triangles partners fours undone ratios works repeats fourTests failsFirst renames
+    halves grows notes bare doubled most cases same numbersOf ran weighedAs agrees allAgree isVariable headHas inHeads strangeSlot strangeExpression
+    strangeGuard strangeFact strange behind fieldsOf orderedOf testedOf recordOf noted ended goOn readFrom readOf factAt factsFrom laterBad
+    laterPlacesBad goalFactBad factsVerdict goalVerdict goalOf verdictResult checkOf outputOf runOf weighed weighOf goalWeight headsWeight bodyWeight
+    bodyFacts mostPlaces mostFacts stepBound firstZero firstHeavy isAmong four firedOf sameIds sameFired inHistory firstOf storedFact mayStand
+    complete candidate search firstInstance variableValue slotValue expressionValue comparisonValue guardValue headAt guardAt bodyFactAt isFact itemAt
+    behindItem headsFrom guardsFrom itemsFrom ruleOf tableBy tableOf ruleAt placesIn placesFrom places storedBytes answerBytes answered endedAs
+    runWith run withVariable matchVariable matchSlot andSlot matchSlots matchHead kindOf outOfOrder start argumentValues itemEntry bodyEntries keep
+    gone without names pruned activated advanced dropped isRemoved fired stepWith placeBad arityAt placesBad topOf expressionBad argumentsBad headBad
+    guardBad bodyFactBad badField slotBy slotAt expressionAt u32At signedOf bitsOf i32At bytes4 inRange exact unlessZero sumOf differenceOf productOf
+    quotientOf remainderOf operate onNumbers evaluate holds judge compare
 workedRuns = tt

@@ -18,14 +18,17 @@ use Rattle.model.specs.declared.RuleShape.{RuleShape}
 use Rattle.model.specs.declared.HeadPlace.{HeadPlace}
 use Rattle.model.specs.Limits.{mostRules, mostHeads, mostGuards, mostItems, mostGoalFacts}
 use Rattle.model.specs.Reading.{readOf, noShape}
-use Rattle.model.specs.Table.{Head, Guard, BodyItem, bodyFact, bodyFail, Rule, Table, heads, headAt, guardAt, bodyFactAt, isFact, itemAt, behindItem, headsFrom, guardsFrom, itemsFrom, headsStart, guardsStart, itemsStart, ruleOf, tableBy, tableOf, noRule, ruleAt, sameSymbol, placeIf, placesIn, placesFrom, places}
+use Rattle.model.specs.Table.{Head, Guard, BodyItem, bodyFact, bodyFail, Rule, Table, heads, headAt, guardAt, bodyFactAt, isFact, itemAt}
+use Rattle.model.specs.Table.{behindItem, headsFrom, guardsFrom, itemsFrom, headsStart, guardsStart, itemsStart, ruleOf, tableBy, tableOf}
+use Rattle.model.specs.Table.{noRule, ruleAt, sameSymbol, placeIf, placesIn, placesFrom, places}
 use Rattle.model.specs.Goal.{factAt, factsFrom, goalOf}
 use Rattle.model.proofs.Every.{every, every-append, every-by, every-map, every-weaken}
 use Rattle.model.proofs.Good.{ItemIn, ItemsIn, GoodRule, GoodTable, GoodGoal}
 
 -- ---- rows of one size, one behind the other
 
-module _ {A : Type 0} (at : ℕ → A) (size : ℕ) (from : ℕ → ℕ → List A) (none : (p : ℕ) → from p 0 ≡ []) (more : (p n : ℕ) → from p (suc n) ≡ at p ∷ from (p + size) n) where
+module _ {A : Type 0} (at : ℕ → A) (size : ℕ) (from : ℕ → ℕ → List A) (none : (p : ℕ) → from p 0 ≡ [])
+    (more : (p n : ℕ) → from p (suc n) ≡ at p ∷ from (p + size) n) where
   rows-length : (p n : ℕ) → length (from p n) ≡ n
   rows-length p zero = rw (none p)
   rows-length p (suc n) = rw (more p n) (ap suc (rows-length (p + size) n))
@@ -275,22 +278,27 @@ module _ (t : List ℕ) (g : GoodTable t) where
   every-head-declared =
       rw (table-symbols t)
       (every-rule (λ (r : Rule). every (λ (h : Head). h .symbol .0 < readOf t .symbols) (heads r))
-      (λ r q. subst (every (λ (h : Head). h .symbol .0 < readOf t .symbols)) (sym (rule-heads t r (q .keptFew))) (heads-declared t (readOf t .symbols) (headsStart r) (r .heads) (q .headsDeclared))))
+      (λ r q. subst (every (λ (h : Head). h .symbol .0 < readOf t .symbols)) (sym (rule-heads t r (q .keptFew)))
+      (heads-declared t (readOf t .symbols) (headsStart r) (r .heads) (q .headsDeclared))))
 
   pub every-body-declared : every (λ (r : Rule). every (BodyDeclared (tableOf t .symbols)) (r .body)) (tableOf t .rules)
   every-body-declared =
       rw (table-symbols t)
       (every-rule (λ (r : Rule). every (BodyDeclared (readOf t .symbols)) (r .body))
-      (λ r q. subst (every (BodyDeclared (readOf t .symbols))) (sym (rule-body t r)) (items-declared t (readOf t .symbols) (itemsStart r) (r .items) (q .bodyIn))))
+      (λ r q. subst (every (BodyDeclared (readOf t .symbols))) (sym (rule-body t r))
+      (items-declared t (readOf t .symbols) (itemsStart r) (r .items) (q .bodyIn))))
 
   pub every-heads-few : every (λ (r : Rule). length (heads r) ≤ mostHeads) (tableOf t .rules)
-  every-heads-few = every-rule (λ (r : Rule). length (heads r) ≤ mostHeads) (λ r q. rw (rule-heads t r (q .keptFew), heads-length t (headsStart r) (r .heads)) (q .fewHeads))
+  every-heads-few =
+      every-rule (λ (r : Rule). length (heads r) ≤ mostHeads) (λ r q. rw (rule-heads t r (q .keptFew), heads-length t (headsStart r) (r .heads)) (q .fewHeads))
 
   pub every-heads-some : every (λ (r : Rule). 1 ≤ length (heads r)) (tableOf t .rules)
-  every-heads-some = every-rule (λ (r : Rule). 1 ≤ length (heads r)) (λ r q. rw (rule-heads t r (q .keptFew), heads-length t (headsStart r) (r .heads)) (q .someHead))
+  every-heads-some =
+      every-rule (λ (r : Rule). 1 ≤ length (heads r)) (λ r q. rw (rule-heads t r (q .keptFew), heads-length t (headsStart r) (r .heads)) (q .someHead))
 
   pub every-guards-few : every (λ (r : Rule). length (r .guards) ≤ mostGuards) (tableOf t .rules)
-  every-guards-few = every-rule (λ (r : Rule). length (r .guards) ≤ mostGuards) (λ r q. rw (rule-guards t r, guards-length t (guardsStart r) (r .guards)) (q .fewGuards))
+  every-guards-few =
+      every-rule (λ (r : Rule). length (r .guards) ≤ mostGuards) (λ r q. rw (rule-guards t r, guards-length t (guardsStart r) (r .guards)) (q .fewGuards))
 
   pub every-body-few : every (λ (r : Rule). length (r .body) ≤ mostItems) (tableOf t .rules)
   every-body-few = every-rule (λ (r : Rule). length (r .body) ≤ mostItems) (λ r q. rw (rule-body t r, items-length t (itemsStart r) (r .items)) (q .fewItems))
@@ -319,12 +327,18 @@ module _ (s : Symbol) where
   placesIn-few n k [] = omega arith
   placesIn-few n k (h ∷ hs) =
       let p : HeadPlace = record { rule = record { 0 = n }; head = k } in
-      omega (arith, length-append (placesIn s n (suc k) hs) (placeIf (sameSymbol (h .symbol) s) p), placesIn-few n (suc k) hs, placeIf-few (sameSymbol (h .symbol) s) p)
+      omega (
+        arith,
+        length-append (placesIn s n (suc k) hs) (placeIf (sameSymbol (h .symbol) s) p),
+        placesIn-few n (suc k) hs,
+        placeIf-few (sameSymbol (h .symbol) s) p,
+      )
 
   placesFrom-few : (n : ℕ) (rs : List Rule) → every (λ (r : Rule). length (heads r) ≤ mostHeads) rs → length (placesFrom s n rs) ≤ 4 * length rs
   unfolding placesFrom
   placesFrom-few n [] u = omega arith
-  placesFrom-few n (r ∷ rs) u = omega (arith, length-append (placesIn s n 0 (heads r)) (placesFrom s (suc n) rs), placesIn-few n 0 (heads r), u .0, placesFrom-few (suc n) rs (u .1))
+  placesFrom-few n (r ∷ rs) u =
+      omega (arith, length-append (placesIn s n 0 (heads r)) (placesFrom s (suc n) rs), placesIn-few n 0 (heads r), u .0, placesFrom-few (suc n) rs (u .1))
 
 -- 64 rules of at most 4 heads
 pub places-few : (t : List ℕ) → GoodTable t → (s : Symbol) → length (places (tableOf t) s) ≤ 256

@@ -25,15 +25,16 @@ use Rattle.model.specs.Table.{Head, Rule, Table, BodyItem, bodyFact, bod
 use Rattle.model.specs.Goal.{goalVerdict, goalOf}
 use Rattle.model.specs.Search.{noHead}
 use Rattle.model.specs.Weights.{weightIn, goalWeight, headsWeight, bodyWeight, bodyFacts, mostPlaces, mostFacts, stepBound, firstZero, firstHeavy}
-use Rattle.model.specs.Calls.{refusal, outputOf, runOf, weighed, weighGoal, weighRules, weighZero, weighCount, weighTable, weighOf}
-use Rattle.model.proofs.Every.{every, every-at}
+use Rattle.model.specs.Results.{refusal}
+use Rattle.model.specs.Calls.{outputOf, runOf, weighed, weighGoal, weighRules, weighZero, weighCount, weighTable, weighOf}
+use Rattle.model.proofs.Every.{every, every-at, every-both, every-weaken}
 use Rattle.model.proofs.Lists.{every-getD}
 use Rattle.model.proofs.Good.{good-table, refusal-small, good-goal, goal-places}
 use Rattle.model.proofs.Decoded.{every-head-declared, every-body-few, goal-few, places-few, PlaceIn, places-in}
 use Rattle.model.proofs.Places.{places-have}
 use Rattle.model.proofs.Ranges.{AreBytes}
 use Rattle.model.proofs.Results.{run-cases}
-use Rattle.model.proofs.Weight.{Light, Weighs, demand3}
+use Rattle.model.proofs.Weight.{Loses, Light, Weighs, demand3}
 
 -- ---- M: no symbol has more head places
 
@@ -56,12 +57,17 @@ Declared t = every (λ (r : Rule). every (λ (h : Head). h .symbol .0 < t .symbo
 few-places : (t : Table) → Declared t → (s : Symbol) → length (places t s) ≤ mostPlaces t (t .symbols)
 few-places t d s = go (places t s) refl (places-in t s) (places-have t s (λ (r : Rule). every (λ (h : Head). h .symbol .0 < t .symbols) (heads r)) d)
   where
-    go : (l : List HeadPlace) → places t s ≡ l → every (PlaceIn t s) l → every (λ (p : HeadPlace). every (λ (h : Head). h .symbol .0 < t .symbols) (heads (ruleAt t (p .rule)))) l
+    go : (l : List HeadPlace) → places t s ≡ l → every (PlaceIn t s) l
+        → every (λ (p : HeadPlace). every (λ (h : Head). h .symbol .0 < t .symbols) (heads (ruleAt t (p .rule)))) l
         → length (places t s) ≤ mostPlaces t (t .symbols)
     go [] e u v = omega (arith, ap (λ (l : List HeadPlace). length l) e)
     go (p ∷ ps) e u v =
         below-most t (t .symbols) s
-        (omega (arith, u .0 .symbolSame noHead, every-at (λ (h : Head). h .symbol .0 < t .symbols) (heads (ruleAt t (p .rule))) (p .head) noHead (v .0) (u .0 .headIn)))
+        (omega (
+          arith,
+          u .0 .symbolSame noHead,
+          every-at (λ (h : Head). h .symbol .0 < t .symbols) (heads (ruleAt t (p .rule))) (p .head) noHead (v .0) (u .0 .headIn),
+        ))
 
 -- ---- the tests 41 and 42, turned into facts
 
@@ -72,16 +78,26 @@ nonzero k (zero ∷ ws) e i = absurd (let z : _≡_ {A = ℕ} 0 1 = cc in omega 
 nonzero k (suc n ∷ ws) e zero = omega arith
 nonzero k (suc n ∷ ws) e (suc i) = nonzero (suc k) ws e i
 
-light : (w : Symbol → ℕ) (k : ℕ) (rs : List Rule) (B : ℕ) → mostFacts rs ≤ B → firstHeavy w k rs ≡ none → every (Light w B) rs
-unfolding firstHeavy mostFacts
-light w k [] B m e = tt
-light w k (r ∷ rs) B m e = go (ltb (bodyWeight w (r .body)) (headsWeight w (r .removed))) refl e (λ q. light w (suc k) rs B (omega arith) q)
+pub all-lose : (w : Symbol → ℕ) (k : ℕ) (rs : List Rule) → firstHeavy w k rs ≡ none → every (Loses w) rs
+unfolding firstHeavy
+all-lose w k [] e = tt
+all-lose w k (r ∷ rs) e = go (ltb (bodyWeight w (r .body)) (headsWeight w (r .removed))) refl e (all-lose w (suc k) rs)
   where
     go : (x : Bool) → ltb (bodyWeight w (r .body)) (headsWeight w (r .removed)) ≡ x
         → _≡_ {A = Option ℕ} (elim x [ true ↦ firstHeavy w (suc k) rs | false ↦ some k ]) none
-        → (firstHeavy w (suc k) rs ≡ none → every (Light w B) rs) → Light w B r × every (Light w B) rs
-    go true q e ih = (record { loses = ltb-true (bodyWeight w (r .body)) (headsWeight w (r .removed)) q; short = omega arith }, ih e)
+        → (firstHeavy w (suc k) rs ≡ none → every (Loses w) rs) → Loses w r × every (Loses w) rs
+    go true q e ih = (ltb-true (bodyWeight w (r .body)) (headsWeight w (r .removed)) q, ih e)
     go false q e ih = absurd (let z : _≡_ {A = ℕ} 0 1 = cc in omega arith)
+
+all-short : (rs : List Rule) (B : ℕ) → mostFacts rs ≤ B → every (λ (r : Rule). bodyFacts (r .body) ≤ B) rs
+unfolding mostFacts
+all-short [] B m = tt
+all-short (r ∷ rs) B m = (omega arith, all-short rs B (omega arith))
+
+light : (w : Symbol → ℕ) (rs : List Rule) (B : ℕ) → mostFacts rs ≤ B → firstHeavy w 0 rs ≡ none → every (Light w B) rs
+light w rs B m e =
+    every-weaken (λ (r : Rule). Loses w r × (bodyFacts (r .body) ≤ B)) (Light w B) (λ r q. record { loses = q .0; short = q .1 }) rs
+    (every-both (Loses w) (λ (r : Rule). bodyFacts (r .body) ≤ B) rs (all-lose w 0 rs e) (all-short rs B m))
 
 -- ---- what a weighing that gives 0 says
 
@@ -100,7 +116,8 @@ module _ (t weights g : List ℕ) where
   module _ (a : readOf t .verdict ≡ Good) where
     module _ (b : length weights ≡ readOf t .symbols) where
       module _ (c : firstZero 0 weights ≡ none) where
-        goal-says : firstHeavy (weightIn weights) 0 (tableOf t .rules) ≡ none → (v : Verdict) → goalVerdict t (readOf t .symbols) g ≡ v → Says (weighGoal t weights g v)
+        goal-says : firstHeavy (weightIn weights) 0 (tableOf t .rules) ≡ none → (v : Verdict) → goalVerdict t (readOf t .symbols) g ≡ v
+            → Says (weighGoal t weights g v)
         goal-says d Good q = λ e. record { table = a; counted = b; something = c; loses = d; goal = q; whole = refl }
         goal-says d (Refused n p) q = λ e. absurd (omega (arith, goal-places t (readOf t .symbols) g n p q .low))
 
@@ -135,7 +152,13 @@ pub record Promise (W bound limit : ℕ) (r : CallResult) : Type 0 where
   pub neverHistory : r .number ≡ 7 → ⊥
 
 refused-promise : (W bound limit n p : ℕ) → 16 ≤ n → Promise W bound limit (refusal n p)
-refused-promise W bound limit n p h = record { steps = omega arith; firings = omega arith; neverLimit = λ l e. omega arith; neverFull = λ l e. omega arith; neverHistory = λ e. omega arith }
+refused-promise W bound limit n p h = record {
+  steps = omega arith;
+  firings = omega arith;
+  neverLimit = λ l e. omega arith;
+  neverFull = λ l e. omega arith;
+  neverHistory = λ e. omega arith;
+}
 
 module _ (t weights g : List ℕ) (zero-number : weighOf t weights g .result .number ≡ 0) where
   good : GoodWeighing t weights g (weighOf t weights g)
@@ -144,7 +167,7 @@ module _ (t weights g : List ℕ) (zero-number : weighOf t weights g .result .nu
   weights-weigh : Weighs (tableOf t) (weightIn weights) (mostPlaces (tableOf t) (tableOf t .symbols)) (mostFacts (tableOf t .rules))
   weights-weigh = record {
     something = λ s. nonzero 0 weights (good .something) (s .0);
-    rules = light (weightIn weights) 0 (tableOf t .rules) (mostFacts (tableOf t .rules)) (omega arith) (good .loses);
+    rules = light (weightIn weights) (tableOf t .rules) (mostFacts (tableOf t .rules)) (omega arith) (good .loses);
     fewPlaces = few-places (tableOf t) (every-head-declared t (good-table t (good .table)));
   }
 
@@ -153,8 +176,10 @@ module _ (t weights g : List ℕ) (zero-number : weighOf t weights g .result .nu
   unfolding weighed outputOf
   weighed-run limit buffer =
       subst (λ (x : Weighing). Promise (x .weight) (x .bound) limit (runOf t g limit buffer .result)) (sym (good .whole))
-      (let d = demand3 (tableOf t) (weightIn weights) (mostPlaces (tableOf t) (tableOf t .symbols)) (mostFacts (tableOf t .rules)) weights-weigh (goalOf g) limit in
-      run-cases (λ o. Promise (weighed t weights g .weight) (weighed t weights g .bound) limit (o .result)) t g limit buffer (λ n p low high near. refused-promise _ _ limit n p low)
+      (let d = demand3 (tableOf t) (weightIn weights) (mostPlaces (tableOf t) (tableOf t .symbols)) (mostFacts (tableOf t .rules)) weights-weigh
+      (goalOf g) limit in
+      run-cases (λ o. Promise (weighed t weights g .weight) (weighed t weights g .bound) limit (o .result)) t g limit buffer
+      (λ n p low high near. refused-promise _ _ limit n p low)
       (λ k. record { steps = d .steps; firings = d .firings; neverLimit = d .neverLimit; neverFull = d .neverFull; neverHistory = d .neverHistory }))
 
 -- ---- the bound is a legal limit

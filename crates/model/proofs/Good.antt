@@ -26,7 +26,8 @@ use Rattle.model.specs.Limits.{mostSymbols, mostRules, mostHeads, mostGu
 use Rattle.model.specs.Records.{kindOf, sizeOf, earliestOf, latestOf, outOfOrder, headless, tooMany}
 use Rattle.model.specs.Fields.{headBad, bodyFactBad, badField}
 use Rattle.model.specs.Variables.{strange}
-use Rattle.model.specs.Reading.{noShape, noShapes, firstScan, reading, withPart, withRule, withSymbol, withKept, withRemoved, withGuard, withItem, behind, fieldsOf, orderedOf, testedOf, recordOf, noted, ended, goOn, readFrom, readOf}
+use Rattle.model.specs.Reading.{noShape, noShapes, firstScan, reading, withPart, withRule, withSymbol, withKept, withRemoved, withGuard}
+use Rattle.model.specs.Reading.{withItem, behind, fieldsOf, orderedOf, testedOf, recordOf, noted, ended, goOn, readFrom, readOf}
 use Rattle.model.specs.Table.{isFact, behindItem, headsStart, itemsStart}
 use Rattle.model.specs.Goal.{goalFactBad, factsVerdict, goalVerdict}
 
@@ -302,7 +303,8 @@ record Passed (t : List ℕ) (s : Scan) (k : Kind) : Type 0 where
   fields : badField t s k ≡ false
 
 -- the heads so far and one more, which stands behind them, are declared
-one-more : (t : List ℕ) (r : RuleShape) (at symbols : ℕ) → ((i : ℕ) → i < r .heads → getD t (headsStart r + 22 * i + 1) 0 < symbols) → at ≡ headsStart r + 22 * r .heads → getD t (at + 1) 0 < symbols
+one-more : (t : List ℕ) (r : RuleShape) (at symbols : ℕ) → ((i : ℕ) → i < r .heads → getD t (headsStart r + 22 * i + 1) 0 < symbols)
+    → at ≡ headsStart r + 22 * r .heads → getD t (at + 1) 0 < symbols
     → (i : ℕ) → i < r .heads + 1 → getD t (headsStart r + 22 * i + 1) 0 < symbols
 one-more t r at symbols before here new i l = go (eq-or-lt-of-le {n = i} {m = r .heads} (omega arith))
   where
@@ -389,8 +391,10 @@ module _ (t : List ℕ) (s : Scan) (shapes : List RuleShape) (h : Sane t s shape
       }
 
   -- a head, kept or removed
-  head-in : (stage kept : ℕ) → 1 ≤ s .stage → s .stage ≤ 3 → kept ≤ s .shape .heads + 1 → s .shape .heads < 4 → headBad t (s .at) (s .symbols) ≡ false → s .at + 22 ≤ length t
-      → InRule t (withPart s 22 stage (record { start = s .shape .start; kept = kept; heads = s .shape .heads + 1; guards = s .shape .guards; items = s .shape .items }))
+  head-in : (stage kept : ℕ) → 1 ≤ s .stage → s .stage ≤ 3 → kept ≤ s .shape .heads + 1 → s .shape .heads < 4 → headBad t (s .at) (s .symbols) ≡ false
+      → s .at + 22 ≤ length t
+      → InRule t (withPart s 22 stage
+      (record { start = s .shape .start; kept = kept; heads = s .shape .heads + 1; guards = s .shape .guards; items = s .shape .items }))
   head-in stage kept l m k few fields lies =
       let r = h .inRule l in
       let noGuard : s .shape .guards ≡ 0 = r .noGuard m in
@@ -438,7 +442,8 @@ module _ (t : List ℕ) (s : Scan) (shapes : List RuleShape) (h : Sane t s shape
       }
 
   -- a body item of either kind
-  item-in : (size : ℕ) → 2 ≤ s .stage → s .shape .items < 4 → size ≤ 46 → behindItem t (s .at) ≡ s .at + size → s .at + size ≤ length t → ItemIn t (s .symbols) (s .at)
+  item-in : (size : ℕ) → 2 ≤ s .stage → s .shape .items < 4 → size ≤ 46 → behindItem t (s .at) ≡ s .at + size → s .at + size ≤ length t
+      → ItemIn t (s .symbols) (s .at)
       → InRule t (withPart s size 5 (withItem (s .shape)))
   item-in size l few small e lies i =
       let r = h .inRule (omega arith) in
@@ -479,7 +484,8 @@ module _ (t : List ℕ) (s : Scan) (shapes : List RuleShape) (h : Sane t s shape
       let none : isFact t (s .at) ≡ false = is-fact t (s .at) false (q .byte) in
       let to : behindItem t (s .at) ≡ s .at + 1 = behind-fail t (s .at) none in
       part-sane 1 5 (withItem (s .shape)) (omega arith) (omega arith) (q .lies)
-      (item-in 1 two (leb-false 4 (s .shape .items) (q .few)) (omega arith) to (q .lies) (record { lies = rw to (q .lies); declared = λ e. absurd (not-both (isFact t (s .at)) none e) }))
+      (item-in 1 two (leb-false 4 (s .shape .items) (q .few)) (omega arith) to (q .lies)
+      (record { lies = rw to (q .lies); declared = λ e. absurd (not-both (isFact t (s .at)) none e) }))
 
   guard-sane : Passed t s Comparison → Sane t (withPart s 24 4 (withGuard (s .shape))) (noted shapes (withPart s 24 4 (withGuard (s .shape))))
   guard-sane q =
@@ -533,7 +539,14 @@ module _ (t : List ℕ) (s : Scan) (shapes : List RuleShape) (h : Sane t s shape
       stopped (tooMany k s) 19 (s .at) _ (here 19 (omega arith) (omega arith)) (λ few.
       stopped (badField t s k) 20 (s .at) _ (here 20 (omega arith) (omega arith)) (λ fields.
       stopped (strange t s k) 22 (s .at) _ (here 22 (omega arith) (omega arith)) (λ usual.
-      behind-is k (record { byte = byte; lies = ltb-false (length t) (s .at + sizeOf k) lies; ordered = ordered; headed = headed; few = few; fields = fields }))))))))
+      behind-is k (record {
+        byte = byte;
+        lies = ltb-false (length t) (s .at + sizeOf k) lies;
+        ordered = ordered;
+        headed = headed;
+        few = few;
+        fields = fields;
+      }))))))))
 
   pub record-is : StepIs t s shapes (recordOf t s)
   unfolding recordOf
@@ -554,7 +567,8 @@ abbrev pub VerdictIs : List ℕ → Reading → Verdict → Type 0
 VerdictIs t r Good = GoodReading t r
 VerdictIs t r (Refused n p) = TableRefusal n p
 
-ended-is : (t : List ℕ) (s : Scan) (shapes : List RuleShape) (p : ℕ) → Sane t s shapes → p ≡ s .at + 1 → (s .stage ≡ 1 → ⊥) → VerdictIs t (reading (ended t p) (s .symbols) (s .rules) shapes) (ended t p)
+ended-is : (t : List ℕ) (s : Scan) (shapes : List RuleShape) (p : ℕ) → Sane t s shapes → p ≡ s .at + 1 → (s .stage ≡ 1 → ⊥)
+    → VerdictIs t (reading (ended t p) (s .symbols) (s .rules) shapes) (ended t p)
 unfolding ended
 ended-is t s shapes p h e d = go (ltb p (length t)) refl
   where
@@ -569,7 +583,8 @@ ended-is t s shapes p h e d = go (ltb p (length t)) refl
     }
 
 go-on-is : (n : ℕ) (t : List ℕ) (s : Scan) (shapes : List RuleShape) → Sane t s shapes → length t ≤ suc n + s .at
-    → ((s′ : Scan) (shapes′ : List RuleShape) → Sane t s′ shapes′ → length t ≤ n + s′ .at → VerdictIs t (readFrom n t s′ shapes′) (readFrom n t s′ shapes′ .verdict))
+    → ((s′ : Scan) (shapes′ : List RuleShape) → Sane t s′ shapes′ → length t ≤ n + s′ .at
+    → VerdictIs t (readFrom n t s′ shapes′) (readFrom n t s′ shapes′ .verdict))
     → (r : RecordStep) → StepIs t s shapes r → VerdictIs t (goOn t s shapes (readFrom n t) r) (goOn t s shapes (readFrom n t) r .verdict)
 unfolding goOn
 go-on-is n t s shapes h l ih (Next s′) q = ih s′ (noted shapes s′) (q .1) (omega (arith, q .0))
@@ -577,7 +592,8 @@ go-on-is n t s shapes h l ih (Stop k p) q = q
 go-on-is n t s shapes h l ih (Done p) q = ended-is t s shapes p h (q .0) (q .1)
 
 -- each record takes a byte, so that the count of records left is enough
-pub read-is : (n : ℕ) (t : List ℕ) (s : Scan) (shapes : List RuleShape) → Sane t s shapes → length t ≤ n + s .at → VerdictIs t (readFrom n t s shapes) (readFrom n t s shapes .verdict)
+pub read-is : (n : ℕ) (t : List ℕ) (s : Scan) (shapes : List RuleShape) → Sane t s shapes → length t ≤ n + s .at
+    → VerdictIs t (readFrom n t s shapes) (readFrom n t s shapes .verdict)
 unfolding readFrom
 read-is zero t s shapes h l = refusal-at t s shapes h 17 (length t) (omega arith) (omega arith) (omega arith)
 read-is (suc n) t s shapes h l = go-on-is n t s shapes h l (read-is n t) (recordOf t s) (record-is t s shapes h)
@@ -650,7 +666,8 @@ module _ (t : List ℕ) (symbols : ℕ) (g : List ℕ) where
   unfolding goalVerdict
   goal-is = go (eqb (length g % 18) 0) refl
     where
-      go′ : length g % 18 ≡ 0 → (b : Bool) → leb (length g / 18) mostGoalFacts ≡ b → GoalIs symbols g (cond b (factsVerdict t symbols g 0 (length g / 18)) (Refused 34 0))
+      go′ : length g % 18 ≡ 0 → (b : Bool) → leb (length g / 18) mostGoalFacts ≡ b
+          → GoalIs symbols g (cond b (factsVerdict t symbols g 0 (length g / 18)) (Refused 34 0))
       go′ e true q =
           let l : length g / 18 ≤ 64 = leb-true (length g / 18) 64 q in
           counted e l (factsVerdict t symbols g 0 (length g / 18)) (facts-are 0 (length g / 18) (omega arith))

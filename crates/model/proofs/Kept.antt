@@ -27,8 +27,11 @@ use Rattle.model.specs.declared.HeadPlace.{HeadPlace}
 use Rattle.model.specs.Limits.{storeRoom, stackRoom, historyRoom, mostGoalFacts}
 use Rattle.model.specs.Table.{Head, Rule, Table, BodyItem, bodyFact, bodyFail, ruleAt, places}
 use Rattle.model.specs.Search.{Fired, Found, nothing, undefinedGuard, applies, isAmong, nobody, four, firedOf, firstInstance}
-use Rattle.model.specs.Steps.{State, waiting, start, argumentValues, waitingIf, itemEntry, consEntry, bodyEntries, keep, gone, without, pruned, remembered, activated, advanced, dropped, popIf, isRemoved, fired, Outcome, moves, fires, fails, stops, withinHistory, withinStack, withBody, withFound, atPlace, activate, stepItem}
-use Rattle.model.specs.Run.{Ended, endedAs, runFrom, run}
+use Rattle.model.specs.Steps.{State, waiting, start, argumentValues, waitingIf, itemEntry, consEntry, bodyEntries, keep, gone, without, pruned}
+use Rattle.model.specs.Steps.{remembered, prunes, activated, advanced, dropped, popIf, isRemoved, fired, Outcome, moves, fires, fails, stops}
+use Rattle.model.specs.Steps.{withinHistory, withinStack, withBody, withFound, atPlace, activate, stepWith, stepItem}
+use Rattle.model.specs.Results.{Counts, noCounts}
+use Rattle.model.specs.Run.{Ended, endedAs, stepped, firedOnce, runFrom, run}
 use Rattle.model.proofs.Every.{every, every-both, every-append, every-weaken, every-map}
 use Rattle.model.proofs.Lists.{every-snoc, every-mem, every-kept, every-getD, keep-length, OptionIs, index-is}
 use Rattle.model.proofs.Loop.{behindStep, every-run}
@@ -52,7 +55,8 @@ pub rising-within : (lo hi : ℕ) (ss : List Stored) → Rising lo hi ss → eve
 rising-within lo hi [] r = tt
 rising-within lo hi (s ∷ ss) r = (
   (r .0, rising-le (suc (s .id .0)) hi ss (r .1)),
-  every-weaken (λ (x : Stored). (suc (s .id .0) ≤ x .id .0) × (x .id .0 < hi)) (λ (x : Stored). (lo ≤ x .id .0) × (x .id .0 < hi)) (λ x q. (omega (arith, r .0, q .0), q .1)) ss (rising-within (suc (s .id .0)) hi ss (r .1)),
+  every-weaken (λ (x : Stored). (suc (s .id .0) ≤ x .id .0) × (x .id .0 < hi)) (λ (x : Stored). (lo ≤ x .id .0) × (x .id .0 < hi))
+      (λ x q. (omega (arith, r .0, q .0), q .1)) ss (rising-within (suc (s .id .0)) hi ss (r .1)),
 )
 
 rising-down : (lo lo′ hi : ℕ) (ss : List Stored) → lo′ ≤ lo → Rising lo hi ss → Rising lo′ hi ss
@@ -112,7 +116,9 @@ pub record Kept (t : Table) (k : ℕ) (st : State) : Type 0 where
 -- ---- the start
 
 start-entries : (t : Table) (goal : List Fact) → every FactRanged goal → every (EntryKept t 1) (map waiting goal)
-start-entries t goal u = every-map (EntryKept t 1) waiting goal (every-weaken FactRanged (λ (f : Fact). WaitingKept (f .symbol) f) (λ f r. record { same = refl; ranged = r }) goal u)
+start-entries t goal u =
+    every-map (EntryKept t 1) waiting goal
+    (every-weaken FactRanged (λ (f : Fact). WaitingKept (f .symbol) f) (λ f r. record { same = refl; ranged = r }) goal u)
 
 pub start-kept : (t : Table) (goal : List Fact) → length goal ≤ mostGoalFacts → every FactRanged goal → Kept t 0 (start goal)
 unfolding start
@@ -144,7 +150,8 @@ module _ (t : Table) (n : ℕ) (b : Binding) (k : BindingRanged b) where
   body-kept [] r = tt
   body-kept (i ∷ is) r = go (itemEntry b i) (bodyEntries b is) (item-kept i (r .0)) (body-kept is (r .1))
     where
-      go : (o : Option Entry) (p : Option (List Entry)) → OptionIs (EntryKept t n) o → OptionIs (every (EntryKept t n)) p → OptionIs (every (EntryKept t n)) (consEntry o p)
+      go : (o : Option Entry) (p : Option (List Entry)) → OptionIs (EntryKept t n) o → OptionIs (every (EntryKept t n)) p
+          → OptionIs (every (EntryKept t n)) (consEntry o p)
       go none p u v = tt
       go (some e) none u v = tt
       go (some e) (some es) u v = (u, v)
@@ -161,14 +168,14 @@ OutcomeKept t k (stops n p) = (3 ≤ n) × (n ≤ 7) × (p ≤ length (t .rules)
 -- all but the room of a firing's stack and history, which the step tests
 within-kept : (t : Table) (k : ℕ) (n : RuleNumber) (after : State) → n .0 < length (t .rules)
     → (length (after .stack) ≤ stackRoom → length (after .history) ≤ historyRoom → Kept t k after)
-    → OutcomeKept t k (withinStack (leb (length (after .stack)) stackRoom) n after)
+    → OutcomeKept t k (withinStack prunes (leb (length (after .stack)) stackRoom) n after)
 within-kept t k n after h both = go (leb (length (after .stack)) stackRoom) refl
   where
     room : leb (length (after .stack)) stackRoom ≡ true → (y : Bool) → leb (length (after .history)) historyRoom ≡ y → OutcomeKept t k (withinHistory y n after)
     room a true b = both (leb-true (length (after .stack)) stackRoom a) (leb-true (length (after .history)) historyRoom b)
     room a false b = omega arith
 
-    go : (x : Bool) → leb (length (after .stack)) stackRoom ≡ x → OutcomeKept t k (withinStack x n after)
+    go : (x : Bool) → leb (length (after .stack)) stackRoom ≡ x → OutcomeKept t k (withinStack prunes x n after)
     go true a = room a (leb (length (after .history)) historyRoom) refl
     go false a = omega arith
 
@@ -185,7 +192,8 @@ four-below n h is u = (at 0, (at 1, (at 2, (at 3, tt))))
     at : (k : ℕ) → getD is k nobody .0 < n
     at k = every-getD (λ (i : FactId). i .0 < n) is k nobody u h
 
-remembered-kept : (n : ℕ) (removed : List Head) (f : Fired) (is : List FactId) (fs : List Fired) → FiredKept n f → every (FiredKept n) fs → every (FiredKept n) (remembered removed f is fs)
+remembered-kept : (n : ℕ) (removed : List Head) (f : Fired) (is : List FactId) (fs : List Fired) → FiredKept n f → every (FiredKept n) fs
+    → every (FiredKept n) (remembered removed f is fs)
 unfolding pruned
 remembered-kept n [] f is fs k u = every-snoc (FiredKept n) fs f u k
 remembered-kept n (h ∷ hs) f is fs k u = every-kept (FiredKept n) _ fs u
@@ -207,15 +215,16 @@ module _ (t : Table) (r : TableRanged t) (k : ℕ) (st : State) (e : Entry) (es 
       subst (every (λ (i : FactId). i .0 < st .next)) (c .chosenIds)
       (every-map (λ (i : FactId). i .0 < st .next) (λ (s : Stored). s .id) (c .facts)
       (every-weaken (λ s. List·Memᴰ s (st .store)) (λ (s : Stored). s .id .0 < st .next)
-      (λ s m. every-mem (λ (s : Stored). (1 ≤ s .id .0) × (s .id .0 < st .next)) (st .store) (rising-within 1 (st .next) (st .store) (z .rising)) s m .1) (c .facts) (c .stored)))
+      (λ s m. every-mem (λ (s : Stored). (1 ≤ s .id .0) × (s .id .0 < st .next)) (st .store) (rising-within 1 (st .next) (st .store) (z .rising)) s m .1)
+      (c .facts) (c .stored)))
 
   body-step : (i : FactId) (p : HeadPlace) → PlaceIn t (e .symbol) p → (chosen : List FactId) (b : Binding)
       → Instance (st .store) (st .history) p (ruleAt t (p .rule)) i chosen b
-      → (o : Option (List Entry)) → OptionIs (every (EntryKept t (st .next))) o → OutcomeKept t (suc k) (withBody t st e es p chosen o)
+      → (o : Option (List Entry)) → OptionIs (every (EntryKept t (st .next))) o → OutcomeKept t (suc k) (withBody prunes t st e es p chosen o)
   unfolding fired without firedOf
   body-step i p at chosen b c none u = omega (arith, at .ruleIn)
   body-step i p at chosen b c (some body) u =
-      within-kept t (suc k) (p .rule) (fired st e es p (ruleAt t (p .rule)) chosen body) (at .ruleIn)
+      within-kept t (suc k) (p .rule) (fired prunes st e es p (ruleAt t (p .rule)) chosen body) (at .ruleIn)
       (λ roomy short. record {
         stack = roomy;
         store = omega (arith, z .store, keep-length (λ (s : Stored). not (isAmong (s .id) (gone (ruleAt t (p .rule)) chosen))) (st .store));
@@ -223,15 +232,17 @@ module _ (t : Table) (r : TableRanged t) (k : ℕ) (st : State) (e : Entry) (es 
         given = omega (arith, z .given);
         rising = rising-keep _ 1 (st .next) (st .store) (z .rising);
         facts = every-kept StoredKept _ (st .store) (z .facts);
-        entries = every-append (EntryKept t (st .next)) body (popIf (isRemoved (ruleAt t (p .rule)) (p .head)) e es) u (pop-kept (isRemoved (ruleAt t (p .rule)) (p .head)));
+        entries = every-append (EntryKept t (st .next)) body (popIf (isRemoved (ruleAt t (p .rule)) (p .head)) e es) u
+            (pop-kept (isRemoved (ruleAt t (p .rule)) (p .head)));
         fired = remembered-kept (st .next) (ruleAt t (p .rule) .removed) (firedOf (p .rule) chosen) (gone (ruleAt t (p .rule)) chosen) (st .history)
             (four-below (st .next) (rising-le 1 (st .next) (st .store) (z .rising)) chosen (chosen-below i p chosen b c)) (z .fired);
       })
 
-  found-step : (i : FactId) (j : Occurrence) → ActiveKept t (st .next) (e .symbol) i (j .0) → j .0 - 1 < length (places t (e .symbol)) → (p : HeadPlace) → PlaceIn t (e .symbol) p
+  found-step : (i : FactId) (j : Occurrence) → ActiveKept t (st .next) (e .symbol) i (j .0) → j .0 - 1 < length (places t (e .symbol)) → (p : HeadPlace)
+      → PlaceIn t (e .symbol) p
       → every ItemRanged (ruleAt t (p .rule) .body) → (o : Found)
       → FoundIs (Instance (st .store) (st .history) p (ruleAt t (p .rule)) i) o → FoundIs (λ chosen b. BindingRanged b) o
-      → OutcomeKept t (suc k) (withFound t st e es i (j .0) p o)
+      → OutcomeKept t (suc k) (withFound prunes t st e es i (j .0) p o)
   unfolding advanced
   found-step i j a l p at m nothing u v = record {
     stack = deep;
@@ -249,7 +260,7 @@ module _ (t : Table) (r : TableRanged t) (k : ℕ) (st : State) (e : Entry) (es 
 
   place-step : (i : FactId) (j : Occurrence) → ActiveKept t (st .next) (e .symbol) i (j .0) → (o : Option HeadPlace)
       → OptionIs (λ p. (PlaceIn t (e .symbol) p × every ItemRanged (ruleAt t (p .rule) .body)) × (j .0 - 1 < length (places t (e .symbol)))) o
-      → OutcomeKept t (suc k) (atPlace t st e es i (j .0) o)
+      → OutcomeKept t (suc k) (atPlace prunes t st e es i (j .0) o)
   unfolding dropped
   place-step i j a none u = record {
     stack = omega (arith, deep);
@@ -265,7 +276,7 @@ module _ (t : Table) (r : TableRanged t) (k : ℕ) (st : State) (e : Entry) (es 
       found-step i j a (u .1) p (u .0 .0) (u .0 .1) (firstInstance (st .store) (st .history) p (ruleAt t (p .rule)) i)
       (instance-is (st .store) (st .history) p (ruleAt t (p .rule)) i) (found-ranged (st .store) (st .history) p (ruleAt t (p .rule)) i (z .facts))
 
-  activate-step : (f : Fact) → WaitingKept (e .symbol) f → (x : Bool) → ltb (length (st .store)) storeRoom ≡ x → OutcomeKept t (suc k) (activate t st e es f x)
+  activate-step : (f : Fact) → WaitingKept (e .symbol) f → (x : Bool) → ltb (length (st .store)) storeRoom ≡ x → OutcomeKept t (suc k) (activate st e es f x)
   unfolding activated
   activate-step f w true b = record {
     stack = deep;
@@ -279,15 +290,18 @@ module _ (t : Table) (r : TableRanged t) (k : ℕ) (st : State) (e : Entry) (es 
       every-weaken (EntryKept t (st .next)) (EntryKept t (suc (st .next))) (λ x q. later t (st .next) (x .symbol) (x .item) q) es (both .1),
     );
     fired = every-weaken (FiredKept (st .next)) (FiredKept (suc (st .next)))
-        (λ x q. every-weaken (λ (i : FactId). i .0 < st .next) (λ (i : FactId). i .0 < suc (st .next)) (λ i l. omega arith) (x .ids) q) (st .history) (z .fired);
+        (λ x q. every-weaken (λ (i : FactId). i .0 < st .next) (λ (i : FactId). i .0 < suc (st .next)) (λ i l. omega arith) (x .ids) q) (st .history)
+        (z .fired);
   }
   activate-step f w false b = omega arith
 
   places-kept : every (λ (p : HeadPlace). PlaceIn t (e .symbol) p × every ItemRanged (ruleAt t (p .rule) .body)) (places t (e .symbol))
-  places-kept = every-both (PlaceIn t (e .symbol)) _ (places t (e .symbol)) (places-in t (e .symbol)) (places-have t (e .symbol) (λ (r : Rule). every ItemRanged (r .body)) r)
+  places-kept =
+      every-both (PlaceIn t (e .symbol)) _ (places t (e .symbol)) (places-in t (e .symbol))
+      (places-have t (e .symbol) (λ (r : Rule). every ItemRanged (r .body)) r)
 
   item-step : (it : Item) → ItemKept t (st .next) (e .symbol) it → OutcomeKept t (suc k) (stepItem t st e es it)
-  unfolding stepItem
+  unfolding stepWith
   item-step (Waiting f) w = activate-step f w (ltb (length (st .store)) storeRoom) refl
   item-step (Active i j) a =
       place-step i j a (getElem? (places t (e .symbol)) (j .0 - 1))
@@ -300,22 +314,24 @@ module _ (t : Table) (r : TableRanged t) (k : ℕ) (st : State) (e : Entry) (es 
 
 -- ---- the run
 
--- of a result, k steps and f firings before the end of which `limit` steps were left
-pub record EndKept (t : Table) (limit k f : ℕ) (r : Ended) : Type 0 where
+-- of the result of a run from where the counts are c and `limit` steps are left
+pub record EndKept (t : Table) (limit : ℕ) (c : Counts) (r : Ended) : Type 0 where
   pub number : r .result .number ≤ 7
   pub place : r .result .place ≤ length (t .rules)
-  pub steps : r .result .steps ≤ k + limit
-  pub firings : r .result .firings + k ≤ r .result .steps + f
+  pub steps : r .result .steps ≤ c .steps + limit
+  pub firings : r .result .firings + c .steps ≤ r .result .steps + c .firings
   pub identifiers : r .result .identifiers ≤ r .result .steps
   pub stored : r .result .stored ≡ length (r .store)
   pub room : length (r .store) ≤ storeRoom
   pub rising : Rising 1 (suc (r .result .identifiers)) (r .store)
   pub facts : every StoredKept (r .store)
 
--- an ending k′ steps after the start, in a state that is kept after k of them
-end-kept : (t : Table) (limit k f : ℕ) (st : State) → Kept t k st → (n p k′ : ℕ) → n ≤ 7 → p ≤ length (t .rules) → k ≤ k′ → k′ ≤ k + limit → EndKept t limit k f (endedAs n p k′ f st)
+-- an ending with the counts d, in a state that is kept: where c was counted, or one step later
+end-kept : (t : Table) (limit : ℕ) (c d : Counts) (st : State) → Kept t (c .steps) st → (n p : ℕ) → n ≤ 7 → p ≤ length (t .rules)
+    → c .steps ≤ d .steps → d .steps ≤ c .steps + limit → d .firings ≡ c .firings
+    → EndKept t limit c (endedAs n p d st)
 unfolding endedAs
-end-kept t limit k f st z n p k′ h g a b =
+end-kept t limit c d st z n p h g a b f =
     let low = rising-le 1 (st .next) (st .store) (z .rising) in
     let given : st .next ≡ suc (st .next - 1) = omega (arith, low) in
     record {
@@ -331,8 +347,9 @@ end-kept t limit k f st z n p k′ h g a b =
     }
 
 -- a step more, that may be a firing
-one-more : (t : Table) (limit k f f′ : ℕ) (r : Ended) → f′ ≤ suc f → EndKept t limit (suc k) f′ r → EndKept t (suc limit) k f r
-one-more t limit k f f′ r h x = record {
+one-more : (t : Table) (limit : ℕ) (c d : Counts) (r : Ended) → d .steps ≡ suc (c .steps) → d .firings ≤ suc (c .firings)
+    → EndKept t limit d r → EndKept t (suc limit) c r
+one-more t limit c d r e h x = record {
   number = x .number;
   place = x .place;
   steps = omega (arith, x .steps);
@@ -345,19 +362,23 @@ one-more t limit k f f′ r h x = record {
 }
 
 module _ (t : Table) (r : TableRanged t) where
-  behind-kept : (limit k f : ℕ) (st : State) → Kept t k st → ((k f : ℕ) (st : State) → Kept t k st → EndKept t limit k f (runFrom t limit k f st))
-      → (o : Outcome) → OutcomeKept t (suc k) o → EndKept t (suc limit) k f (behindStep t limit k f st o)
-  behind-kept limit k f st z ih (moves next) u = one-more t limit k f f _ (omega arith) (ih (suc k) f next u)
-  behind-kept limit k f st z ih (fires next) u = one-more t limit k f (suc f) _ (omega arith) (ih (suc k) (suc f) next u)
-  behind-kept limit k f st z ih fails u = end-kept t (suc limit) k f st z 1 0 (suc k) (omega arith) (omega arith) (omega arith) (omega arith)
-  behind-kept limit k f st z ih (stops n p) u = end-kept t (suc limit) k f st z n p k (omega arith) (omega arith) (omega arith) (omega arith)
+  behind-kept : (limit : ℕ) (c : Counts) (st : State) → Kept t (c .steps) st
+      → ((c : Counts) (st : State) → Kept t (c .steps) st → EndKept t limit c (runFrom t limit c st))
+      → (o : Outcome) → OutcomeKept t (suc (c .steps)) o → EndKept t (suc limit) c (behindStep prunes t limit c st o)
+  behind-kept limit c st z ih (moves next) u = one-more t limit c (stepped c) _ refl (omega arith) (ih (stepped c) next u)
+  behind-kept limit c st z ih (fires next) u = one-more t limit c (firedOnce c) _ refl (omega arith) (ih (firedOnce c) next u)
+  behind-kept limit c st z ih fails u =
+      end-kept t (suc limit) c (stepped c) st z 1 0 (omega arith) (omega arith) (omega arith) (omega arith) refl
+  behind-kept limit c st z ih (stops n p) u =
+      end-kept t (suc limit) c c st z n p (omega arith) (omega arith) (omega arith) (omega arith) refl
 
   -- Every result of a run.
-  pub run-kept : (goal : List Fact) → length goal ≤ mostGoalFacts → every FactRanged goal → (limit : ℕ) → EndKept t limit 0 0 (run t goal limit)
+  pub run-kept : (goal : List Fact) → length goal ≤ mostGoalFacts → every FactRanged goal → (limit : ℕ)
+      → EndKept t limit noCounts (run t limit (start goal))
   unfolding run
   run-kept goal h u limit =
-      every-run t (λ limit k f st r. Kept t k st → EndKept t limit k f r)
-      (λ limit k f st q z. end-kept t limit k f st z 0 0 k (omega arith) (omega arith) (omega arith) (omega arith))
-      (λ k f st z. end-kept t 0 k f st z 2 0 k (omega arith) (omega arith) (omega arith) (omega arith))
-      (λ limit k f st e es q ih z. behind-kept limit k f st z ih (stepItem t st e es (e .item)) (step-kept t r k st e es z q))
-      limit 0 0 (start goal) (start-kept t goal h u)
+      every-run t (λ limit c st r. Kept t (c .steps) st → EndKept t limit c r)
+      (λ limit c st q z. end-kept t limit c c st z 0 0 (omega arith) (omega arith) (omega arith) (omega arith) refl)
+      (λ c st z. end-kept t 0 c c st z 2 0 (omega arith) (omega arith) (omega arith) (omega arith) refl)
+      (λ limit c st e es q ih z. behind-kept limit c st z ih (stepItem t st e es (e .item)) (step-kept t r (c .steps) st e es z q))
+      limit noCounts (start goal) (start-kept t goal h u)

@@ -15,3 +15,4 @@ pub mod Results
 pub mod Weight
 pub mod Demand3
 pub mod Pruning
+pub mod Compacting

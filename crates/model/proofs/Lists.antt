@@ -31,7 +31,8 @@ module _ {A : Type 0} where
     every-keep p [] u = tt
     every-keep p (x ∷ xs) u = go (p x) refl (every-keep p xs (u .1))
       where
-        go : (b : Bool) → p x ≡ b → every (λ y. P y × (p y ≡ true)) (keep p xs) → every (λ y. P y × (p y ≡ true)) (elim b [ true ↦ x ∷ keep p xs | false ↦ keep p xs ])
+        go : (b : Bool) → p x ≡ b → every (λ y. P y × (p y ≡ true)) (keep p xs)
+            → every (λ y. P y × (p y ≡ true)) (elim b [ true ↦ x ∷ keep p xs | false ↦ keep p xs ])
         go true q v = ((u .0, q), v)
         go false q v = v
 
@@ -70,7 +71,8 @@ module _ {A : Type 0} where
   keep-snoc p (x ∷ xs) y q = go (p x) (keep-snoc p xs y q)
     where
       go : (b : Bool) → keep p (xs ++ (y ∷ [])) ≡ keep p xs ++ (y ∷ [])
-          → _≡_ {A = List A} (elim b [ true ↦ x ∷ keep p (xs ++ (y ∷ [])) | false ↦ keep p (xs ++ (y ∷ [])) ]) (elim b [ true ↦ x ∷ keep p xs | false ↦ keep p xs ] ++ (y ∷ []))
+          → _≡_ {A = List A} (elim b [ true ↦ x ∷ keep p (xs ++ (y ∷ [])) | false ↦ keep p (xs ++ (y ∷ [])) ])
+          (elim b [ true ↦ x ∷ keep p xs | false ↦ keep p xs ] ++ (y ∷ []))
       go true e = ap (λ l. x ∷ l) e
       go false e = e
 

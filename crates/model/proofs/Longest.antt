@@ -59,7 +59,8 @@ longestTable = symbolsThen 32 (rows 64)
 -- ---- a record that passes every test is read
 
 record-passes : (t : List ℕ) (s : Scan) (k : Kind) → kindOf (getD t (s .at) 0) ≡ k → 1 ≤ sizeOf k → s .at + sizeOf k ≤ length t
-    → outOfOrder k (s .stage) ≡ false → headless k (s .stage) ≡ false → tooMany k s ≡ false → badField t s k ≡ false → strange t s k ≡ false → recordOf t s ≡ behind s k
+    → outOfOrder k (s .stage) ≡ false → headless k (s .stage) ≡ false → tooMany k s ≡ false → badField t s k ≡ false → strange t s k ≡ false
+    → recordOf t s ≡ behind s k
 unfolding recordOf testedOf orderedOf fieldsOf
 record-passes t s k kind some lies ordered headed few fields usual =
     let here : leb (length t) (s .at) ≡ false = lt-leb (length t) (s .at) (omega arith) in
@@ -105,7 +106,8 @@ module _ (t l : List ℕ) (p : ℕ) (e : drop p t ≡ l) where
   unfolding argumentsBad
   arguments-at i arity = simp (add-assoc, expression-at)
 
-  strange-at : (start heads i : ℕ) → strangeExpression t start heads (p + i) ≡ (strangeSlot t start heads (slotAt l (i + 1)) || strangeSlot t start heads (slotAt l (i + 6)))
+  strange-at : (start heads i : ℕ) → strangeExpression t start heads (p + i)
+      ≡ (strangeSlot t start heads (slotAt l (i + 1)) || strangeSlot t start heads (slotAt l (i + 6)))
   unfolding strangeExpression
   strange-at start heads i = simp (add-assoc, slot-at)
 
@@ -151,7 +153,12 @@ module _ (t : List ℕ) (arity : arityAt t 0 ≡ 0) (rest : Bytes) (p : ℕ) whe
   fact-usual : (start heads : ℕ) → drop p t ≡ factRow ++ rest → strangeFact t start heads p ≡ false
   unfolding strangeFact strangeSlot factRow slotAt slotBy u32At
   fact-usual start heads e =
-      rw (strange-at t (factRow ++ rest) p e start heads 2, strange-at t (factRow ++ rest) p e start heads 13, strange-at t (factRow ++ rest) p e start heads 24, strange-at t (factRow ++ rest) p e start heads 35)
+      rw (
+        strange-at t (factRow ++ rest) p e start heads 2,
+        strange-at t (factRow ++ rest) p e start heads 13,
+        strange-at t (factRow ++ rest) p e start heads 24,
+        strange-at t (factRow ++ rest) p e start heads 35,
+      )
 
 -- ---- each row is read, and what is behind it
 
@@ -167,11 +174,13 @@ abbrev shaped : ℕ → ℕ → ℕ → ℕ → RuleShape
 shaped start h g i = record { start = start; kept = 0; heads = h; guards = g; items = i }
 
 module _ (t : List ℕ) (arity : arityAt t 0 ≡ 0) (rest : Bytes) (p : ℕ) where
-  symbol-read : (n symbols : ℕ) → symbols < 32 → drop p t ≡ symbolRow ++ rest → (drop (p + 2) t ≡ rest → Passes n t (atSymbols (p + 2) (symbols + 1))) → Passes (suc n) t (atSymbols p symbols)
+  symbol-read : (n symbols : ℕ) → symbols < 32 → drop p t ≡ symbolRow ++ rest → (drop (p + 2) t ≡ rest → Passes n t (atSymbols (p + 2) (symbols + 1)))
+      → Passes (suc n) t (atSymbols p symbols)
   unfolding symbolRow kindOf outOfOrder badField strange behind
   symbol-read n symbols few e next =
       passes-next n t (atSymbols p symbols) (atSymbols (p + 2) (symbols + 1))
-      (record-passes t (atSymbols p symbols) NextSymbol (rw (byte-here t (symbolRow ++ rest) p e)) (omega arith) (row-lies t symbolRow rest p e (omega arith)) refl refl (lt-leb 32 symbols few)
+      (record-passes t (atSymbols p symbols) NextSymbol (rw (byte-here t (symbolRow ++ rest) p e)) (omega arith)
+      (row-lies t symbolRow rest p e (omega arith)) refl refl (lt-leb 32 symbols few)
       (rw (byte-at t (symbolRow ++ rest) p e 1)) refl)
       (next (row-rest t symbolRow rest p e))
 
@@ -180,7 +189,8 @@ module _ (t : List ℕ) (arity : arityAt t 0 ≡ 0) (rest : Bytes) (p : ℕ) whe
   unfolding ruleRow kindOf badField strange behind
   rule-read n r stage shape few ordered headed e next =
       passes-next n t (atRule p r stage shape) (atRule (p + 1) (r + 1) 1 (shaped p 0 0 0))
-      (record-passes t (atRule p r stage shape) NextRule (rw (byte-here t (ruleRow ++ rest) p e)) (omega arith) (row-lies t ruleRow rest p e (omega arith)) ordered headed (lt-leb 64 r few) refl refl)
+      (record-passes t (atRule p r stage shape) NextRule (rw (byte-here t (ruleRow ++ rest) p e)) (omega arith)
+      (row-lies t ruleRow rest p e (omega arith)) ordered headed (lt-leb 64 r few) refl refl)
       (next (row-rest t ruleRow rest p e))
 
   head-read : (n r stage start h : ℕ) → h < 4 → outOfOrder RemovedHead stage ≡ false → drop p t ≡ headRow ++ rest
@@ -188,7 +198,8 @@ module _ (t : List ℕ) (arity : arityAt t 0 ≡ 0) (rest : Bytes) (p : ℕ) whe
   unfolding headRow kindOf badField strange behind
   head-read n r stage start h few ordered e next =
       passes-next n t (atRule p r stage (shaped start h 0 0)) (atRule (p + 22) r 3 (shaped start (h + 1) 0 0))
-      (record-passes t (atRule p r stage (shaped start h 0 0)) RemovedHead (rw (byte-here t (headRow ++ rest) p e)) (omega arith) (row-lies t headRow rest p e (omega arith)) ordered refl (lt-leb 4 h few)
+      (record-passes t (atRule p r stage (shaped start h 0 0)) RemovedHead (rw (byte-here t (headRow ++ rest) p e)) (omega arith)
+      (row-lies t headRow rest p e (omega arith)) ordered refl (lt-leb 4 h few)
       (head-fine t arity rest p e) refl)
       (next (row-rest t headRow rest p e))
 
@@ -197,7 +208,8 @@ module _ (t : List ℕ) (arity : arityAt t 0 ≡ 0) (rest : Bytes) (p : ℕ) whe
   unfolding guardRow kindOf badField strange behind
   guard-read n r stage start g few ordered headed e next =
       passes-next n t (atRule p r stage (shaped start 4 g 0)) (atRule (p + 24) r 4 (shaped start 4 (g + 1) 0))
-      (record-passes t (atRule p r stage (shaped start 4 g 0)) Comparison (rw (byte-here t (guardRow ++ rest) p e)) (omega arith) (row-lies t guardRow rest p e (omega arith)) ordered headed (lt-leb 4 g few)
+      (record-passes t (atRule p r stage (shaped start 4 g 0)) Comparison (rw (byte-here t (guardRow ++ rest) p e)) (omega arith)
+      (row-lies t guardRow rest p e (omega arith)) ordered headed (lt-leb 4 g few)
       (guard-fine t arity rest p e) (guard-usual t arity rest p start 4 e))
       (next (row-rest t guardRow rest p e))
 
@@ -206,7 +218,8 @@ module _ (t : List ℕ) (arity : arityAt t 0 ≡ 0) (rest : Bytes) (p : ℕ) whe
   unfolding factRow kindOf badField strange behind
   fact-read n r stage start i few ordered headed e next =
       passes-next n t (atRule p r stage (shaped start 4 4 i)) (atRule (p + 46) r 5 (shaped start 4 4 (i + 1)))
-      (record-passes t (atRule p r stage (shaped start 4 4 i)) BodyFact (rw (byte-here t (factRow ++ rest) p e)) (omega arith) (row-lies t factRow rest p e (omega arith)) ordered headed (lt-leb 4 i few)
+      (record-passes t (atRule p r stage (shaped start 4 4 i)) BodyFact (rw (byte-here t (factRow ++ rest) p e)) (omega arith)
+      (row-lies t factRow rest p e (omega arith)) ordered headed (lt-leb 4 i few)
       (fact-fine t arity rest p e) (fact-usual t arity rest p start 4 e))
       (next (row-rest t factRow rest p e))
 
@@ -221,7 +234,8 @@ records zero n = suc n
 records (suc k) n = suc (four (four (four (records k n))))
 
 module _ (t : List ℕ) (arity : arityAt t 0 ≡ 0) where
-  heads-read : (n p r start : ℕ) (rest : Bytes) → drop p t ≡ fourOf headRow rest → ((q : ℕ) → drop q t ≡ rest → Passes n t (atRule q r 3 (shaped start 4 0 0))) → Passes (four n) t (atRule p r 1 (shaped start 0 0 0))
+  heads-read : (n p r start : ℕ) (rest : Bytes) → drop p t ≡ fourOf headRow rest
+      → ((q : ℕ) → drop q t ≡ rest → Passes n t (atRule q r 3 (shaped start 4 0 0))) → Passes (four n) t (atRule p r 1 (shaped start 0 0 0))
   unfolding fourOf outOfOrder
   heads-read n p r start rest e next =
       head-read t arity _ p _ r 1 start 0 (omega arith) refl e (λ e1.
@@ -229,7 +243,8 @@ module _ (t : List ℕ) (arity : arityAt t 0 ≡ 0) where
       head-read t arity _ (p + 22 + 22) _ r 3 start 2 (omega arith) refl e2 (λ e3.
       head-read t arity rest (p + 22 + 22 + 22) n r 3 start 3 (omega arith) refl e3 (next (p + 22 + 22 + 22 + 22)))))
 
-  guards-read : (n p r start : ℕ) (rest : Bytes) → drop p t ≡ fourOf guardRow rest → ((q : ℕ) → drop q t ≡ rest → Passes n t (atRule q r 4 (shaped start 4 4 0))) → Passes (four n) t (atRule p r 3 (shaped start 4 0 0))
+  guards-read : (n p r start : ℕ) (rest : Bytes) → drop p t ≡ fourOf guardRow rest
+      → ((q : ℕ) → drop q t ≡ rest → Passes n t (atRule q r 4 (shaped start 4 4 0))) → Passes (four n) t (atRule p r 3 (shaped start 4 0 0))
   unfolding fourOf outOfOrder
   guards-read n p r start rest e next =
       guard-read t arity _ p _ r 3 start 0 (omega arith) refl refl e (λ e1.
@@ -237,7 +252,8 @@ module _ (t : List ℕ) (arity : arityAt t 0 ≡ 0) where
       guard-read t arity _ (p + 24 + 24) _ r 4 start 2 (omega arith) refl refl e2 (λ e3.
       guard-read t arity rest (p + 24 + 24 + 24) n r 4 start 3 (omega arith) refl refl e3 (next (p + 24 + 24 + 24 + 24)))))
 
-  facts-read : (n p r start : ℕ) (rest : Bytes) → drop p t ≡ fourOf factRow rest → ((q : ℕ) → drop q t ≡ rest → Passes n t (atRule q r 5 (shaped start 4 4 4))) → Passes (four n) t (atRule p r 4 (shaped start 4 4 0))
+  facts-read : (n p r start : ℕ) (rest : Bytes) → drop p t ≡ fourOf factRow rest
+      → ((q : ℕ) → drop q t ≡ rest → Passes n t (atRule q r 5 (shaped start 4 4 4))) → Passes (four n) t (atRule p r 4 (shaped start 4 4 0))
   unfolding fourOf outOfOrder
   facts-read n p r start rest e next =
       fact-read t arity _ p _ r 4 start 0 (omega arith) refl refl e (λ e1.
@@ -245,15 +261,18 @@ module _ (t : List ℕ) (arity : arityAt t 0 ≡ 0) where
       fact-read t arity _ (p + 46 + 46) _ r 5 start 2 (omega arith) refl refl e2 (λ e3.
       fact-read t arity rest (p + 46 + 46 + 46) n r 5 start 3 (omega arith) refl refl e3 (next (p + 46 + 46 + 46 + 46)))))
 
-  end-read : (n p r stage : ℕ) (shape : RuleShape) → outOfOrder EndOfTable stage ≡ false → eqb stage 1 ≡ false → drop p t ≡ 8 ∷ [] → Passes (suc n) t (atRule p r stage shape)
+  end-read : (n p r stage : ℕ) (shape : RuleShape) → outOfOrder EndOfTable stage ≡ false → eqb stage 1 ≡ false → drop p t ≡ 8 ∷ []
+      → Passes (suc n) t (atRule p r stage shape)
   unfolding kindOf badField strange behind
   end-read n p r stage shape ordered headed e =
       passes-done n t (atRule p r stage shape) (p + 1)
-      (record-passes t (atRule p r stage shape) EndOfTable (rw (byte-here t (8 ∷ []) p e)) (omega arith) (row-lies t (8 ∷ []) [] p e (omega arith)) ordered headed refl refl refl)
+      (record-passes t (atRule p r stage shape) EndOfTable (rw (byte-here t (8 ∷ []) p e)) (omega arith)
+      (row-lies t (8 ∷ []) [] p e (omega arith)) ordered headed refl refl refl)
       (omega (arith, length-drop p t, ap length e))
 
   -- k rules, and the end
-  rules-read : (k n p r stage : ℕ) (shape : RuleShape) → r + k ≤ 64 → outOfOrder NextRule stage ≡ false → outOfOrder EndOfTable stage ≡ false → eqb stage 1 ≡ false → drop p t ≡ rows k
+  rules-read : (k n p r stage : ℕ) (shape : RuleShape) → r + k ≤ 64 → outOfOrder NextRule stage ≡ false → outOfOrder EndOfTable stage ≡ false
+      → eqb stage 1 ≡ false → drop p t ≡ rows k
       → Passes (records k n) t (atRule p r stage shape)
   unfolding rows records outOfOrder
   rules-read zero n p r stage shape few ordered last headed e = end-read n p r stage shape last headed e
@@ -265,7 +284,8 @@ module _ (t : List ℕ) (arity : arityAt t 0 ≡ 0) where
       rules-read k n p4 (r + 1) 5 (shaped p 4 4 4) (omega arith) refl refl refl e4))))
 
   -- j symbols, and what is behind them
-  symbols-read : (j n p symbols : ℕ) (rest : Bytes) → symbols + j ≡ 32 → drop p t ≡ symbolsThen j rest → ((q : ℕ) → drop q t ≡ rest → Passes n t (atSymbols q 32)) → Passes (j + n) t (atSymbols p symbols)
+  symbols-read : (j n p symbols : ℕ) (rest : Bytes) → symbols + j ≡ 32 → drop p t ≡ symbolsThen j rest
+      → ((q : ℕ) → drop q t ≡ rest → Passes n t (atSymbols q 32)) → Passes (j + n) t (atSymbols p symbols)
   unfolding symbolsThen
   symbols-read zero n p symbols rest few e next =
       let z : 0 + n ≡ n = omega arith in
@@ -273,7 +293,8 @@ module _ (t : List ℕ) (arity : arityAt t 0 ≡ 0) where
       rw (z, d) (next p e)
   symbols-read (suc j) n p symbols rest few e next =
       let z : suc j + n ≡ suc (j + n) = omega arith in
-      rw z (symbol-read t arity (symbolsThen j rest) p (j + n) symbols (omega arith) e (λ e1. symbols-read j n (p + 2) (symbols + 1) rest (omega arith) e1 next))
+      rw z (symbol-read t arity (symbolsThen j rest) p (j + n) symbols (omega arith) e
+      (λ e1. symbols-read j n (p + 2) (symbols + 1) rest (omega arith) e1 next))
 
 -- ---- how long it is
 

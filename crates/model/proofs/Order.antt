@@ -19,7 +19,8 @@ use Rattle.model.specs.declared.HeadPlace.{HeadPlace}
 use Rattle.model.specs.Table.{Head, Rule, heads}
 use Rattle.model.specs.Guards.{unbound}
 use Rattle.model.specs.Matching.{matchHead}
-use Rattle.model.specs.Search.{Fired, Found, nothing, undefinedGuard, applies, orElse, firstOf, andThen, storedFact, noHead, complete, candidate, search, fromActive, withActive, firstInstance}
+use Rattle.model.specs.Search.{Fired, Found, nothing, undefinedGuard, applies, orElse, firstOf, andThen, storedFact, noHead, complete}
+use Rattle.model.specs.Search.{candidate, search, fromActive, withActive, firstInstance}
 use Rattle.model.proofs.Every.{every, every-append, every-weaken, every-map}
 use Rattle.model.proofs.Kept.{Rising}
 
@@ -72,7 +73,8 @@ starts-lower : (is : List FactId) (lo lo′ : ℕ) → lo ≤ lo′ → StartsFr
 starts-lower [] lo lo′ h s = absurd s
 starts-lower (k ∷ is) lo lo′ h s = omega arith
 
-ascending-append : (ms ns : List Match) → Ascending ms → Ascending ns → every (λ (m : Match). every (λ (n : Match). Before (m .ids) (n .ids)) ns) ms → Ascending (ms ++ ns)
+ascending-append : (ms ns : List Match) → Ascending ms → Ascending ns → every (λ (m : Match). every (λ (n : Match). Before (m .ids) (n .ids)) ns) ms
+    → Ascending (ms ++ ns)
 ascending-append [] ns a b c = b
 ascending-append (m ∷ ms) ns a b c = (every-append (λ (n : Match). Before (m .ids) (n .ids)) ms ns (a .0) (c .0), ascending-append ms ns (a .1) b (c .1))
 
@@ -99,18 +101,22 @@ record Collected (lo : ℕ) (ms : List Match) : Type 0 where
   ascending : Ascending ms
   starting : every (λ (m : Match). StartsFrom lo (m .ids)) ms
 
-collect-ascends : (f : Stored → List Match) → ((s : Stored) → LedBy (s .id) (f s)) → (lo hi : ℕ) (ss : List Stored) → Rising lo hi ss → Collected lo (collect f ss)
+collect-ascends : (f : Stored → List Match) → ((s : Stored) → LedBy (s .id) (f s)) → (lo hi : ℕ) (ss : List Stored) → Rising lo hi ss
+    → Collected lo (collect f ss)
 collect-ascends f h lo hi [] r = record { ascending = tt; starting = tt }
 collect-ascends f h lo hi (s ∷ ss) r =
     let rest = collect-ascends f h (suc (s .id .0)) hi ss (r .1) in
     record {
       ascending = ascending-append (f s) (collect f ss) (h s .ascending) (rest .ascending)
           (every-weaken (λ (m : Match). Leads (s .id) (m .ids)) (λ (m : Match). every (λ (n : Match). Before (m .ids) (n .ids)) (collect f ss))
-          (λ m l. every-weaken (λ (n : Match). StartsFrom (suc (s .id .0)) (n .ids)) (λ (n : Match). Before (m .ids) (n .ids)) (λ n q. before-later (s .id) (m .ids) (n .ids) l q) (collect f ss) (rest .starting))
+          (λ m l. every-weaken (λ (n : Match). StartsFrom (suc (s .id .0)) (n .ids)) (λ (n : Match). Before (m .ids) (n .ids))
+          (λ n q. before-later (s .id) (m .ids) (n .ids) l q) (collect f ss) (rest .starting))
           (f s) (h s .leading));
       starting = every-append (λ (m : Match). StartsFrom lo (m .ids)) (f s) (collect f ss)
-          (every-weaken (λ (m : Match). Leads (s .id) (m .ids)) (λ (m : Match). StartsFrom lo (m .ids)) (λ m l. leads-start (s .id) (m .ids) lo (r .0) l) (f s) (h s .leading))
-          (every-weaken (λ (m : Match). StartsFrom (suc (s .id .0)) (m .ids)) (λ (m : Match). StartsFrom lo (m .ids)) (λ m q. starts-lower (m .ids) lo (suc (s .id .0)) (omega (arith, r .0)) q) (collect f ss) (rest .starting));
+          (every-weaken (λ (m : Match). Leads (s .id) (m .ids)) (λ (m : Match). StartsFrom lo (m .ids)) (λ m l. leads-start (s .id) (m .ids) lo (r .0) l)
+          (f s) (h s .leading))
+          (every-weaken (λ (m : Match). StartsFrom (suc (s .id .0)) (m .ids)) (λ (m : Match). StartsFrom lo (m .ids))
+          (λ m q. starts-lower (m .ids) lo (suc (s .id .0)) (omega (arith, r .0)) q) (collect f ss) (rest .starting));
     }
 
 -- ---- decisions, one after the other
@@ -142,9 +148,11 @@ module _ (store : List Stored) (history : List Fired) (p : HeadPlace) (r : Rule)
   unfolding decide
   decide-led chosen i [] = refl
   decide-led chosen i (m ∷ ms) =
-      ap₂ (λ (is : List FactId) (later : Found). orElse (complete store history p r active is (m .binding)) later) (sym (append-assoc chosen (i ∷ []) (m .ids))) (decide-led chosen i ms)
+      ap₂ (λ (is : List FactId) (later : Found). orElse (complete store history p r active is (m .binding)) later)
+      (sym (append-assoc chosen (i ∷ []) (m .ids))) (decide-led chosen i ms)
 
-  firstOf-decides : (chosen : List FactId) (f : Stored → Found) (g : Stored → List Match) → ((s : Stored) → f s ≡ decide chosen (g s)) → (ss : List Stored) → firstOf f ss ≡ decide chosen (collect g ss)
+  firstOf-decides : (chosen : List FactId) (f : Stored → Found) (g : Stored → List Match) → ((s : Stored) → f s ≡ decide chosen (g s)) → (ss : List Stored)
+      → firstOf f ss ≡ decide chosen (collect g ss)
   unfolding firstOf decide
   firstOf-decides chosen f g h [] = refl
   firstOf-decides chosen f g h (s ∷ ss) = ap₂ orElse (h s) (firstOf-decides chosen f g h ss) ∙ sym (decide-append chosen (g s) (collect g ss))
@@ -162,18 +170,30 @@ module _ (store : List Stored) (history : List Fired) (p : HeadPlace) (r : Rule)
   -- the search decides over them
   pub search-decides : (hs : List Head) (chosen : List FactId) (b : Binding) → search store history p r active hs chosen b ≡ decide chosen (matches hs chosen b)
   unfolding search matches decide
-  search-decides [] chosen b = ap (λ (is : List FactId). complete store history p r active is b) (sym (append-nil chosen)) ∙ sym (orElse-nothing (complete store history p r active (chosen ++ []) b))
+  search-decides [] chosen b =
+      ap (λ (is : List FactId). complete store history p r active is b) (sym (append-nil chosen))
+      ∙ sym (orElse-nothing (complete store history p r active (chosen ++ []) b))
   search-decides (h ∷ hs) chosen b = go (eqb (length chosen) (p .head)) (λ chosen b. search-decides hs chosen b)
     where
-      one : ((chosen : List FactId) (b : Binding) → search store history p r active hs chosen b ≡ decide chosen (matches hs chosen b)) → (s : Stored) (o : Option Binding)
-          → andThen o (λ c. search store history p r active hs (chosen ++ (s .id ∷ [])) c) ≡ decide chosen (ifSome o (λ c. map (led (s .id)) (matches hs (chosen ++ (s .id ∷ [])) c)))
+      one : ((chosen : List FactId) (b : Binding) → search store history p r active hs chosen b ≡ decide chosen (matches hs chosen b))
+          → (s : Stored) (o : Option Binding)
+          → andThen o (λ c. search store history p r active hs (chosen ++ (s .id ∷ [])) c) ≡ decide chosen
+          (ifSome o (λ c. map (led (s .id)) (matches hs (chosen ++ (s .id ∷ [])) c)))
       one ih s none = refl
       one ih s (some c) = ih (chosen ++ (s .id ∷ [])) c ∙ sym (decide-led chosen (s .id) (matches hs (chosen ++ (s .id ∷ [])) c))
 
       go : (x : Bool) → ((chosen : List FactId) (b : Binding) → search store history p r active hs chosen b ≡ decide chosen (matches hs chosen b))
           → _≡_ {A = Found}
-          (elim x [ true ↦ search store history p r active hs (chosen ++ (active ∷ [])) b | false ↦ firstOf (λ s. andThen (candidate store history p r active h chosen b s) (λ c. search store history p r active hs (chosen ++ (s .id ∷ [])) c)) store ])
-          (decide chosen (elim x [ true ↦ map (led active) (matches hs (chosen ++ (active ∷ [])) b) | false ↦ collect (λ s. ifSome (candidate store history p r active h chosen b s) (λ c. map (led (s .id)) (matches hs (chosen ++ (s .id ∷ [])) c))) store ]))
+          (elim x [
+            | true ↦ search store history p r active hs (chosen ++ (active ∷ [])) b
+            | false ↦ firstOf
+                (λ s. andThen (candidate store history p r active h chosen b s) (λ c. search store history p r active hs (chosen ++ (s .id ∷ [])) c)) store
+          ])
+          (decide chosen (elim x [
+            | true ↦ map (led active) (matches hs (chosen ++ (active ∷ [])) b)
+            | false ↦ collect
+                (λ s. ifSome (candidate store history p r active h chosen b s) (λ c. map (led (s .id)) (matches hs (chosen ++ (s .id ∷ [])) c))) store
+          ]))
       go true ih = ih (chosen ++ (active ∷ [])) b ∙ sym (decide-led chosen active (matches hs (chosen ++ (active ∷ [])) b))
       go false ih = firstOf-decides chosen _ _ (λ s. one ih s (candidate store history p r active h chosen b s)) store
 
@@ -189,7 +209,11 @@ module _ (store : List Stored) (history : List Fired) (p : HeadPlace) (r : Rule)
       one ih s (some c) = led-ascending (s .id) (matches hs (chosen ++ (s .id ∷ [])) c) (ih (chosen ++ (s .id ∷ [])) c)
 
       go : (x : Bool) → ((chosen : List FactId) (b : Binding) → Ascending (matches hs chosen b))
-          → Ascending (elim x [ true ↦ map (led active) (matches hs (chosen ++ (active ∷ [])) b) | false ↦ collect (λ s. ifSome (candidate store history p r active h chosen b s) (λ c. map (led (s .id)) (matches hs (chosen ++ (s .id ∷ [])) c))) store ])
+          → Ascending (elim x [
+            | true ↦ map (led active) (matches hs (chosen ++ (active ∷ [])) b)
+            | false ↦ collect
+                (λ s. ifSome (candidate store history p r active h chosen b s) (λ c. map (led (s .id)) (matches hs (chosen ++ (s .id ∷ [])) c))) store
+          ])
       go true ih = led-ascending active (matches hs (chosen ++ (active ∷ [])) b) (ih (chosen ++ (active ∷ [])) b) .ascending
       go false ih = collect-ascends _ (λ s. one ih s (candidate store history p r active h chosen b s)) lo hi store u .ascending
 
@@ -206,7 +230,8 @@ module _ (store : List Stored) (history : List Fired) (p : HeadPlace) (r : Rule)
       bound none = refl
       bound (some b) = search-decides (heads r) [] b
 
-      go : (o : Option Fact) → withActive store history p r active o ≡ decide [] (ifSome o (λ f. ifSome (matchHead (getD (heads r) (p .head) noHead) f unbound) (matches (heads r) [])))
+      go : (o : Option Fact) → withActive store history p r active o ≡ decide []
+          (ifSome o (λ f. ifSome (matchHead (getD (heads r) (p .head) noHead) f unbound) (matches (heads r) [])))
       go none = refl
       go (some f) = bound (matchHead (getD (heads r) (p .head) noHead) f unbound)
 

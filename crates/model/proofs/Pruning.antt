@@ -22,12 +22,18 @@ use Rattle.model.specs.Limits.{storeRoom, stackRoom, historyRoom}
 use Rattle.model.specs.Table.{Head, Rule, Table, heads, ruleAt, places}
 use Rattle.model.specs.Guards.{unbound, guardValue}
 use Rattle.model.specs.Matching.{matchHead}
-use Rattle.model.specs.Search.{sameId, isAmong, nobody, Fired, four, firedOf, sameIds, sameFired, inHistory, Found, nothing, undefinedGuard, applies, unlessKnown, orElse, firstOf, andThen, storedFact, noHead, complete, candidate, search, fromActive, withActive, firstInstance}
-use Rattle.model.specs.Steps.{State, start, bodyEntries, keep, gone, without, names, pruned, remembered, activated, advanced, dropped, popIf, isRemoved, fired, Outcome, moves, fires, fails, stops, withinHistory, withinStack, withBody, withFound, atPlace, activate, stepItem}
-use Rattle.model.specs.Run.{Ended, endedAs, runFrom, run}
-use Rattle.model.specs.Keeping.{keptAll, keepFired, keepWithin, keepBody, keepFound, keepPlace, keepItem, keepFrom, keepRun}
+use Rattle.model.specs.Search.{sameId, isAmong, nobody, Fired, four, firedOf, sameIds, sameFired, inHistory, Found, nothing, undefinedGuard}
+use Rattle.model.specs.Search.{applies, unlessKnown, orElse, firstOf, andThen, storedFact, noHead, complete, candidate, search, fromActive}
+use Rattle.model.specs.Search.{withActive, firstInstance}
+use Rattle.model.specs.Steps.{State, start, bodyEntries, keep, gone, without, names, pruned, remembered, prunes, activated, advanced, dropped}
+use Rattle.model.specs.Steps.{popIf, isRemoved, fired, Outcome, moves, fires, fails, stops, withinHistory, withinStack, withBody, withFound}
+use Rattle.model.specs.Steps.{atPlace, activate, stepWith, stepItem}
+use Rattle.model.specs.Results.{Counts, noCounts}
+use Rattle.model.specs.Run.{Ended, endedAs, stepped, firedOnce, runWith, runFrom, run}
+use Rattle.model.specs.Keeping.{keptAll, keepsAll, keepRun}
 use Rattle.model.proofs.Every.{every, every-append, every-drop, every-weaken, every-map}
-use Rattle.model.proofs.Lists.{every-snoc, every-mem, every-keep, every-kept, every-getD, keep-keep, keep-snoc, OptionIs, or-both, and-left, and-right, not-true}
+use Rattle.model.proofs.Lists.{every-snoc, every-mem, every-keep, every-kept, every-getD, keep-keep, keep-snoc, OptionIs, or-both, and-left}
+use Rattle.model.proofs.Lists.{and-right, not-true}
 use Rattle.model.proofs.Loop.{behindStep}
 use Rattle.model.proofs.Sound.{same-id, stored-is, FoundIs, Instance, instance-is}
 
@@ -70,7 +76,8 @@ sameIds-eq [] [] e = refl
 sameIds-eq [] (j ∷ js) e = cc
 sameIds-eq (i ∷ is) [] e = cc
 sameIds-eq (i ∷ is) (j ∷ js) e =
-    ap₂ (λ (x : FactId) (y : List FactId). x ∷ y) (same-id i j (and-left (sameId i j) (sameIds is js) e)) (sameIds-eq is js (and-right (sameId i j) (sameIds is js) e))
+    ap₂ (λ (x : FactId) (y : List FactId). x ∷ y) (same-id i j (and-left (sameId i j) (sameIds is js) e))
+    (sameIds-eq is js (and-right (sameId i j) (sameIds is js) e))
 
 -- what names no fact of `gone` is in the one history where it is in the other
 pub inHistory-pruned : (gone : List FactId) (e : Fired) → names (e .ids) gone ≡ false → (fs : List Fired) → inHistory e (pruned gone fs) ≡ inHistory e fs
@@ -87,7 +94,8 @@ inHistory-pruned gone e q (d ∷ ds) = go (names (d .ids) gone) refl (inHistory-
     other m false s = and-false (eqb (d .rule .0) (e .rule .0))
 
     go : (x : Bool) → names (d .ids) gone ≡ x → inHistory e (pruned gone ds) ≡ inHistory e ds
-        → inHistory e (elim (not x) [ true ↦ d ∷ pruned gone ds | false ↦ pruned gone ds ]) ≡ ((eqb (d .rule .0) (e .rule .0) && sameIds (d .ids) (e .ids)) || inHistory e ds)
+        → inHistory e (elim (not x) [ true ↦ d ∷ pruned gone ds | false ↦ pruned gone ds ])
+        ≡ ((eqb (d .rule .0) (e .rule .0) && sameIds (d .ids) (e .ids)) || inHistory e ds)
     go true m h = rw (other m (sameIds (d .ids) (e .ids)) refl) h
     go false m h = rw h refl
 
@@ -124,13 +132,23 @@ module _ (gone : List FactId) (all : List Fired) (store : List Stored) (nobodyLi
       → search store (pruned gone all) p r active hs chosen b ≡ search store all p r active hs chosen b
   unfolding search complete candidate firedOf
   search-eq a [] chosen b u =
-      ap (λ (x : Bool). unlessKnown x (guardValue b (r .guards)) chosen b) (inHistory-pruned gone (firedOf (p .rule) chosen) (four-live gone chosen nobodyLive u) all)
+      ap (λ (x : Bool). unlessKnown x (guardValue b (r .guards)) chosen b)
+      (inHistory-pruned gone (firedOf (p .rule) chosen) (four-live gone chosen nobodyLive u) all)
   search-eq a (h ∷ hs) chosen b u = go (eqb (length chosen) (p .head)) (λ chosen b u. search-eq a hs chosen b u)
     where
-      go : (x : Bool) → ((chosen : List FactId) (b : Binding) → every (Live gone) chosen → search store (pruned gone all) p r active hs chosen b ≡ search store all p r active hs chosen b)
+      go : (x : Bool) → ((chosen : List FactId) (b : Binding) → every (Live gone) chosen
+          → search store (pruned gone all) p r active hs chosen b ≡ search store all p r active hs chosen b)
           → _≡_ {A = Found}
-          (elim x [ true ↦ search store (pruned gone all) p r active hs (chosen ++ (active ∷ [])) b | false ↦ firstOf (λ s. andThen (candidate store (pruned gone all) p r active h chosen b s) (λ c. search store (pruned gone all) p r active hs (chosen ++ (s .id ∷ [])) c)) store ])
-          (elim x [ true ↦ search store all p r active hs (chosen ++ (active ∷ [])) b | false ↦ firstOf (λ s. andThen (candidate store all p r active h chosen b s) (λ c. search store all p r active hs (chosen ++ (s .id ∷ [])) c)) store ])
+          (elim x [
+            | true ↦ search store (pruned gone all) p r active hs (chosen ++ (active ∷ [])) b
+            | false ↦ firstOf (λ s. andThen (candidate store (pruned gone all) p r active h chosen b s)
+                (λ c. search store (pruned gone all) p r active hs (chosen ++ (s .id ∷ [])) c)) store
+          ])
+          (elim x [
+            | true ↦ search store all p r active hs (chosen ++ (active ∷ [])) b
+            | false ↦ firstOf
+                (λ s. andThen (candidate store all p r active h chosen b s) (λ c. search store all p r active hs (chosen ++ (s .id ∷ [])) c)) store
+          ])
       go true ih = ih (chosen ++ (active ∷ [])) b (every-snoc (Live gone) chosen active u a)
       go false ih =
           firstOf-eq _ _ store
@@ -145,9 +163,12 @@ module _ (gone : List FactId) (all : List Fired) (store : List Stored) (nobodyLi
       bound a none = refl
       bound a (some b) = search-eq a (heads r) [] b tt
 
-      go : (o : Option Fact) → OptionIs (λ f. List·Memᴰ (record { id = active; fact = f }) store) o → withActive store (pruned gone all) p r active o ≡ withActive store all p r active o
+      go : (o : Option Fact) → OptionIs (λ f. List·Memᴰ (record { id = active; fact = f }) store) o
+          → withActive store (pruned gone all) p r active o ≡ withActive store all p r active o
       go none m = refl
-      go (some f) m = bound (every-mem (λ (s : Stored). Live gone (s .id)) store live (record { id = active; fact = f }) m) (matchHead (getD (heads r) (p .head) noHead) f unbound)
+      go (some f) m =
+          bound (every-mem (λ (s : Stored). Live gone (s .id)) store live (record { id = active; fact = f }) m)
+          (matchHead (getD (heads r) (p .head) noHead) f unbound)
 
 -- ---- the two states, one step on
 
@@ -198,7 +219,7 @@ Follows fails o = o ≡ fails
 Follows (stops n p) o = (n ≡ 7 → ⊥) → o ≡ stops n p
 
 within-follows : (x : Bool) (n : RuleNumber) (st : State) (all : List Fired) (gone : List FactId) → Held st all gone
-    → Follows (withinStack x n st) (keepWithin x n (keeping st all))
+    → Follows (withinStack prunes x n st) (withinStack keepsAll x n (keeping st all))
 within-follows true n st all gone k = go (leb (length (st .history)) historyRoom)
   where
     go : (y : Bool) → Follows (withinHistory y n st) (fires (keeping st all))
@@ -218,7 +239,8 @@ module _ (t : Table) (st : State) (all : List Fired) (old : List FactId) (k : He
     chosen-are P h =
         subst (every P) (c .chosenIds)
         (every-map P (λ (s : Stored). s .id) (c .facts)
-        (every-weaken (λ s. List·Memᴰ s (st .store)) (λ (s : Stored). P (s .id)) (λ s m. h s (every-mem (Stays (st .next) old) (st .store) (k .stays) s m)) (c .facts) (c .stored)))
+        (every-weaken (λ s. List·Memᴰ s (st .store)) (λ (s : Stored). P (s .id)) (λ s m. h s (every-mem (Stays (st .next) old) (st .store) (k .stays) s m))
+        (c .facts) (c .stored)))
 
     now : List FactId
     now = gone r chosen
@@ -228,14 +250,25 @@ module _ (t : Table) (st : State) (all : List Fired) (old : List FactId) (k : He
     unfolding without
     left-stays =
         every-weaken (λ (s : Stored). Stays (st .next) old s × (not (isAmong (s .id) now) ≡ true)) (Stays (st .next) (old ++ now))
-        (λ s q. record { live = isAmong-append (s .id) old now ∙ or-both (isAmong (s .id) old) (isAmong (s .id) now) (q .0 .live) (not-true (isAmong (s .id) now) (q .1)); given = q .0 .given })
-        (keep (λ (s : Stored). not (isAmong (s .id) now)) (st .store)) (every-keep (Stays (st .next) old) (λ (s : Stored). not (isAmong (s .id) now)) (st .store) (k .stays))
+        (λ s q. record {
+          live = isAmong-append (s .id) old now
+              ∙ or-both (isAmong (s .id) old) (isAmong (s .id) now) (q .0 .live) (not-true (isAmong (s .id) now) (q .1));
+          given = q .0 .given;
+        })
+        (keep (λ (s : Stored). not (isAmong (s .id) now)) (st .store))
+        (every-keep (Stays (st .next) old) (λ (s : Stored). not (isAmong (s .id) now)) (st .store) (k .stays))
 
     names-none : names (four chosen) old ≡ false
     names-none = four-live old chosen nobody-live (chosen-are (Live old) (λ s q. q .live))
 
     -- a firing, of a rule with these removed heads
-    fired-held : (removed : List Head) (stack : List Entry) → (gone′ : List FactId) × Held (record { stack = stack; store = without now (st .store); history = remembered removed (firedOf (p .rule) chosen) now (st .history); next = st .next }) (keptAll removed (firedOf (p .rule) chosen) all) gone′
+    fired-held : (removed : List Head) (stack : List Entry)
+        → (gone′ : List FactId) × Held (record {
+          stack = stack;
+          store = without now (st .store);
+          history = remembered removed (firedOf (p .rule) chosen) now (st .history);
+          next = st .next;
+        }) (keptAll removed (firedOf (p .rule) chosen) now all) gone′
     unfolding pruned without firedOf now gone
     fired-held [] stack = (
       old,
@@ -253,38 +286,46 @@ module _ (t : Table) (st : State) (all : List Fired) (old : List FactId) (k : He
         begun = k .begun;
         left = ap (pruned now) (k .left) ∙ pruned-pruned old now all;
         stays = left-stays;
-        old = every-append (Given (st .next)) old now (k .old) (every-drop (Given (st .next)) (length (r .kept)) chosen (chosen-are (Given (st .next)) (λ s q. q .given)));
+        old = every-append (Given (st .next)) old now (k .old)
+            (every-drop (Given (st .next)) (length (r .kept)) chosen (chosen-are (Given (st .next)) (λ s q. q .given)));
       },
     )
 
-  body-follows : (p : HeadPlace) (i : FactId) (chosen : List FactId) (b : Binding) → Instance (st .store) (st .history) p (ruleAt t (p .rule)) i chosen b → (o : Option (List Entry))
-      → Follows (withBody t st e es p chosen o) (keepBody t (keeping st all) e es p chosen o)
-  unfolding fired keepFired now
+  body-follows : (p : HeadPlace) (i : FactId) (chosen : List FactId) (b : Binding) → Instance (st .store) (st .history) p (ruleAt t (p .rule)) i chosen b
+      → (o : Option (List Entry))
+      → Follows (withBody prunes t st e es p chosen o) (withBody keepsAll t (keeping st all) e es p chosen o)
+  unfolding fired now
   body-follows p i chosen b c none = λ q. refl
   body-follows p i chosen b c (some body) =
       let r : Rule = ruleAt t (p .rule) in
       let stack : List Entry = body ++ popIf (isRemoved r (p .head)) e es in
       let h = fired-held p r i chosen b c (r .removed) stack in
-      within-follows (leb (length stack) stackRoom) (p .rule) _ (keptAll (r .removed) (firedOf (p .rule) chosen) all) (h .0) (h .1)
+      within-follows (leb (length stack) stackRoom) (p .rule) _ (keptAll (r .removed) (firedOf (p .rule) chosen) (gone r chosen) all) (h .0) (h .1)
 
   found-follows : (i : FactId) (j : ℕ) (p : HeadPlace) (o : Found) → FoundIs (Instance (st .store) (st .history) p (ruleAt t (p .rule)) i) o
-      → Follows (withFound t st e es i j p o) (keepFound t (keeping st all) e es i j p o)
+      → Follows (withFound prunes t st e es i j p o) (withFound keepsAll t (keeping st all) e es i j p o)
   unfolding advanced
-  found-follows i j p nothing u = record { all = all; gone = old; held = record { begun = k .begun; left = k .left; stays = k .stays; old = k .old }; same = refl }
+  found-follows i j p nothing u = record {
+    all = all;
+    gone = old;
+    held = record { begun = k .begun; left = k .left; stays = k .stays; old = k .old };
+    same = refl;
+  }
   found-follows i j p undefinedGuard u = λ q. refl
   found-follows i j p (applies chosen b) u = body-follows p i chosen b u (bodyEntries b (ruleAt t (p .rule) .body))
 
   same-instance : (p : HeadPlace) (r : Rule) (i : FactId) → firstInstance (st .store) (st .history) p r i ≡ firstInstance (st .store) all p r i
   same-instance p r i = ap (λ (h : List Fired). firstInstance (st .store) h p r i) (k .left) ∙ instance-eq old all (st .store) nobody-live all-live p r i
 
-  place-follows : (i : FactId) (j : ℕ) (o : Option HeadPlace) → Follows (atPlace t st e es i j o) (keepPlace t (keeping st all) e es i j o)
+  place-follows : (i : FactId) (j : ℕ) (o : Option HeadPlace) → Follows (atPlace prunes t st e es i j o) (atPlace keepsAll t (keeping st all) e es i j o)
   unfolding dropped
   place-follows i j none = record { all = all; gone = old; held = record { begun = k .begun; left = k .left; stays = k .stays; old = k .old }; same = refl }
   place-follows i j (some p) =
-      subst (λ (x : Found). Follows (atPlace t st e es i j (some p)) (keepFound t (keeping st all) e es i j p x)) (same-instance p (ruleAt t (p .rule)) i)
+      subst (λ (x : Found). Follows (atPlace prunes t st e es i j (some p)) (withFound keepsAll t (keeping st all) e es i j p x))
+      (same-instance p (ruleAt t (p .rule)) i)
       (found-follows i j p (firstInstance (st .store) (st .history) p (ruleAt t (p .rule)) i) (instance-is (st .store) (st .history) p (ruleAt t (p .rule)) i))
 
-  activate-follows : (f : Fact) (x : Bool) → Follows (activate t st e es f x) (activate t (keeping st all) e es f x)
+  activate-follows : (f : Fact) (x : Bool) → Follows (activate st e es f x) (activate (keeping st all) e es f x)
   unfolding activated
   activate-follows f true = record {
     all = all;
@@ -293,16 +334,20 @@ module _ (t : Table) (st : State) (all : List Fired) (old : List FactId) (k : He
       begun = omega arith;
       left = k .left;
       stays = every-snoc (Stays (suc (st .next)) old) (st .store) _
-          (every-weaken (Stays (st .next) old) (Stays (suc (st .next)) old) (λ s q. record { live = q .live; given = given-later (st .next) (s .id) (q .given) }) (st .store) (k .stays))
-          (record { live = not-given (st .next) (record { 0 = st .next }) old (k .old) (λ g. omega (arith, g .below)); given = record { from = k .begun; below = omega arith } });
+          (every-weaken (Stays (st .next) old) (Stays (suc (st .next)) old)
+          (λ s q. record { live = q .live; given = given-later (st .next) (s .id) (q .given) }) (st .store) (k .stays))
+          (record {
+            live = not-given (st .next) (record { 0 = st .next }) old (k .old) (λ g. omega (arith, g .below));
+            given = record { from = k .begun; below = omega arith };
+          });
       old = every-weaken (Given (st .next)) (Given (suc (st .next))) (given-later (st .next)) old (k .old);
     };
     same = refl;
   }
   activate-follows f false = λ q. refl
 
-  step-follows : (it : Item) → Follows (stepItem t st e es it) (keepItem t (keeping st all) e es it)
-  unfolding stepItem keepItem
+  step-follows : (it : Item) → Follows (stepItem t st e es it) (stepWith keepsAll t (keeping st all) e es it)
+  unfolding stepWith
   step-follows (Waiting f) = activate-follows f (ltb (length (st .store)) storeRoom)
   step-follows (Active i j) = place-follows i (j .0) (getElem? (places t (e .symbol)) (j .0 - 1))
   step-follows Fail = refl
@@ -313,43 +358,42 @@ module _ (t : Table) where
   abbrev Same : Ended → Ended → Type 0
   Same r q = (r .result .number ≡ 7 → ⊥) → q ≡ r
 
-  -- how the other run goes on after a step
-  abbrev keepOn : ℕ → ℕ → ℕ → State → Outcome → Ended
-  keepOn limit k f st o =
-      elim o [
-        | moves next ↦ keepFrom t limit (suc k) f next
-        | fires next ↦ keepFrom t limit (suc k) (suc f) next
-        | fails ↦ endedAs 1 0 (suc k) f st
-        | stops n p ↦ endedAs n p k f st
-      ]
-
   abbrev SameFrom : ℕ → Type 0
-  SameFrom limit = (k f : ℕ) (st : State) (all : List Fired) (gone : List FactId) → Held st all gone → Same (runFrom t limit k f st) (keepFrom t limit k f (keeping st all))
+  SameFrom limit = (c : Counts) (st : State) (all : List Fired) (gone : List FactId) → Held st all gone
+      → Same (runFrom t limit c st) (runWith keepsAll t limit c (keeping st all))
 
-  next-same : (limit k f : ℕ) (st : State) (all : List Fired) → SameFrom limit → (o q : Outcome) → Follows o q
-      → Same (behindStep t limit k f st o) (keepOn limit k f (keeping st all) q)
+  next-same : (limit : ℕ) (c : Counts) (st : State) (all : List Fired) → SameFrom limit → (o q : Outcome) → Follows o q
+      → Same (behindStep prunes t limit c st o) (behindStep keepsAll t limit c (keeping st all) q)
   unfolding endedAs
-  next-same limit k f st all ih (moves next) q u = λ h. ap (keepOn limit k f (keeping st all)) (u .same) ∙ ih (suc k) f next (u .all) (u .gone) (u .held) h
-  next-same limit k f st all ih (fires next) q u = λ h. ap (keepOn limit k f (keeping st all)) (u .same) ∙ ih (suc k) (suc f) next (u .all) (u .gone) (u .held) h
-  next-same limit k f st all ih fails q u = λ h. ap (keepOn limit k f (keeping st all)) u
-  next-same limit k f st all ih (stops n p) q u = λ h. ap (keepOn limit k f (keeping st all)) (u h)
+  next-same limit c st all ih (moves next) q u =
+      λ h. ap (behindStep keepsAll t limit c (keeping st all)) (u .same) ∙ ih (stepped c) next (u .all) (u .gone) (u .held) h
+  next-same limit c st all ih (fires next) q u =
+      λ h. ap (behindStep keepsAll t limit c (keeping st all)) (u .same) ∙ ih (firedOnce c) next (u .all) (u .gone) (u .held) h
+  next-same limit c st all ih fails q u = λ h. ap (behindStep keepsAll t limit c (keeping st all)) u
+  next-same limit c st all ih (stops n p) q u = λ h. ap (behindStep keepsAll t limit c (keeping st all)) (u h)
 
   from-same : (limit : ℕ) → SameFrom limit
-  unfolding runFrom keepFrom endedAs
-  from-same zero k f st all gone d = go (st .stack)
+  unfolding runWith endedAs
+  from-same zero c st all gone d = go (st .stack)
     where
-      go : (es : List Entry) → Same (elim es [ [] ↦ endedAs 0 0 k f st | e ∷ es ↦ endedAs 2 0 k f st ]) (elim es [ [] ↦ endedAs 0 0 k f (keeping st all) | e ∷ es ↦ endedAs 2 0 k f (keeping st all) ])
+      go : (es : List Entry) → Same (elim es [ [] ↦ endedAs 0 0 c st | e ∷ es ↦ endedAs 2 0 c st ])
+          (elim es [ [] ↦ endedAs 0 0 c (keeping st all) | e ∷ es ↦ endedAs 2 0 c (keeping st all) ])
       go [] = λ h. refl
       go (e ∷ es) = λ h. refl
-  from-same (suc limit) k f st all gone d = go (from-same limit) (st .stack)
+  from-same (suc limit) c st all gone d = go (from-same limit) (st .stack)
     where
       go : SameFrom limit → (es : List Entry)
-          → Same (elim es [ [] ↦ endedAs 0 0 k f st | e ∷ es ↦ behindStep t limit k f st (stepItem t st e es (e .item)) ])
-          (elim es [ [] ↦ endedAs 0 0 k f (keeping st all) | e ∷ es ↦ keepOn limit k f (keeping st all) (keepItem t (keeping st all) e es (e .item)) ])
+          → Same (elim es [ [] ↦ endedAs 0 0 c st | e ∷ es ↦ behindStep prunes t limit c st (stepItem t st e es (e .item)) ])
+          (elim es [
+            | [] ↦ endedAs 0 0 c (keeping st all)
+            | e ∷ es ↦ behindStep keepsAll t limit c (keeping st all) (stepWith keepsAll t (keeping st all) e es (e .item))
+          ])
       go ih [] = λ h. refl
-      go ih (e ∷ es) = next-same limit k f st all ih (stepItem t st e es (e .item)) (keepItem t (keeping st all) e es (e .item)) (step-follows t st all gone d e es (e .item))
+      go ih (e ∷ es) =
+          next-same limit c st all ih (stepItem t st e es (e .item)) (stepWith keepsAll t (keeping st all) e es (e .item))
+          (step-follows t st all gone d e es (e .item))
 
   -- Unless the pruned history is out of room, the two runs are the same: number, place, counts and store.
-  pub pruning : (goal : List Fact) (limit : ℕ) → (run t goal limit .result .number ≡ 7 → ⊥) → keepRun t goal limit ≡ run t goal limit
+  pub pruning : (goal : List Fact) (limit : ℕ) → (run t limit (start goal) .result .number ≡ 7 → ⊥) → keepRun t limit (start goal) ≡ run t limit (start goal)
   unfolding run keepRun start pruned keep
-  pruning goal limit = from-same limit 0 0 (start goal) [] [] (record { begun = omega arith; left = refl; stays = tt; old = tt })
+  pruning goal limit = from-same limit noCounts (start goal) [] [] (record { begun = omega arith; left = refl; stays = tt; old = tt })

@@ -25,7 +25,8 @@ use Rattle.model.specs.declared.Expression.{Expression}
 use Rattle.model.specs.declared.HeadPlace.{HeadPlace}
 use Rattle.model.specs.declared.RuleShape.{RuleShape}
 use Rattle.model.specs.Slots.{slotBy, slotAt, expressionAt}
-use Rattle.model.specs.Table.{Head, Rule, Table, BodyItem, bodyFact, bodyFail, heads, sameSymbol, bodyFactAt, isFact, itemAt, behindItem, itemsFrom, itemsStart, ruleOf, tableBy, tableOf}
+use Rattle.model.specs.Table.{Head, Rule, Table, BodyItem, bodyFact, bodyFail, heads, sameSymbol, bodyFactAt, isFact, itemAt, behindItem}
+use Rattle.model.specs.Table.{itemsFrom, itemsStart, ruleOf, tableBy, tableOf}
 use Rattle.model.specs.Reading.{readOf}
 use Rattle.model.specs.Goal.{factAt, factsFrom, goalOf}
 use Rattle.model.specs.Guards.{unbound, variableValue, slotValue, expressionValue}
@@ -106,13 +107,15 @@ head-ranged h f b r k = go (sameSymbol (h .symbol) (f .symbol))
 some-is : {A : Type 0} (P : A → Type 0) (o : Option A) (x : A) → o ≡ some x → OptionIs P o → P x
 some-is P o x e u = subst (OptionIs P) e u
 
-pub found-ranged : (store : List Stored) (history : List Fired) (p : HeadPlace) (r : Rule) (active : FactId) → every (λ (s : Stored). FactRanged (s .fact)) store
+pub found-ranged : (store : List Stored) (history : List Fired) (p : HeadPlace) (r : Rule) (active : FactId)
+    → every (λ (s : Stored). FactRanged (s .fact)) store
     → FoundIs (λ chosen b. BindingRanged b) (firstInstance store history p r active)
 found-ranged store history p r active u =
     first-is store history p r active (λ chosen b. BindingRanged b) (λ hs chosen b. BindingRanged b)
     (λ chosen b k fresh guard. k)
     (λ h hs chosen b q k. k)
-    (λ h hs chosen b s c off m k. some-is BindingRanged (matchHead h (s .fact) b) c (m .matches) (head-ranged h (s .fact) b (every-mem (λ (s : Stored). FactRanged (s .fact)) store u s (m .stored)) k))
+    (λ h hs chosen b s c off m k. some-is BindingRanged (matchHead h (s .fact) b) c (m .matches)
+    (head-ranged h (s .fact) b (every-mem (λ (s : Stored). FactRanged (s .fact)) store u s (m .stored)) k))
     (λ f b m e. some-is BindingRanged (matchHead (getD (heads r) (p .head) noHead) f unbound) b e
     (head-ranged (getD (heads r) (p .head) noHead) f unbound (every-mem (λ (s : Stored). FactRanged (s .fact)) store u (record { id = active; fact = f }) m)
     (record { each = every-replicate InRange 16 (pos 0) zero-in-range })))
@@ -170,7 +173,10 @@ signed-in-range n h = go (ltb n 2147483648) refl
     go false q = below (ltb n 4294967296) refl
       where
         below : (y : Bool) → ltb n 4294967296 ≡ y → InRange (cond y (negsuc (4294967296 - suc n)) (pos (n - 4294967296)))
-        below true e = record { low = record { le = le→leb (4294967296 - suc n) 2147483647 (omega (arith, ltb-false n 2147483648 q)) }; high = record { le = tt } }
+        below true e = record {
+          low = record { le = le→leb (4294967296 - suc n) 2147483647 (omega (arith, ltb-false n 2147483648 q)) };
+          high = record { le = tt };
+        }
         below false e = absurd (omega (arith, ltb-false n 4294967296 e))
 
 word-in-range : (t : List ℕ) → AreBytes t → (p : ℕ) → InRange (i32At t p)
@@ -181,7 +187,8 @@ slotAt-ranged : (t : List ℕ) → AreBytes t → (p : ℕ) → SlotRanged (slot
 unfolding slotAt slotBy
 slotAt-ranged t u p = go (eqb (getD t p 0) 0) (eqb (u32At t (p + 1)) 0) (eqb (getD t p 0) 1) (eqb (getD t p 0) 2) (ltb (u32At t (p + 1)) 16)
   where
-    go : (a b c d e : Bool) → SlotRanged (cond a (cond b Unused Bad) (cond c (Constant (signedOf (u32At t (p + 1)))) (cond d (cond e (Variable (u32At t (p + 1))) Bad) Bad)))
+    go : (a b c d e : Bool) → SlotRanged (cond a (cond b Unused Bad)
+        (cond c (Constant (signedOf (u32At t (p + 1)))) (cond d (cond e (Variable (u32At t (p + 1))) Bad) Bad)))
     go true true c d e = tt
     go true false c d e = tt
     go false b true d e = signed-in-range (u32At t (p + 1)) (word-small t u (p + 1))
@@ -217,7 +224,8 @@ pub table-ranged : (t : List ℕ) → AreBytes t → TableRanged (tableOf t)
 unfolding tableOf tableBy ruleOf
 table-ranged t u =
     every-map (λ (r : Rule). every ItemRanged (r .body)) (ruleOf t) (take (readOf t .rules) (readOf t .shapes))
-    (every-each (λ (r : RuleShape). every ItemRanged (ruleOf t r .body)) (λ r. items-ranged t u (itemsStart r) (r .items)) (take (readOf t .rules) (readOf t .shapes)))
+    (every-each (λ (r : RuleShape). every ItemRanged (ruleOf t r .body)) (λ r. items-ranged t u (itemsStart r) (r .items))
+    (take (readOf t .rules) (readOf t .shapes)))
 
 facts-ranged : (g : List ℕ) → AreBytes g → (p n : ℕ) → every FactRanged (factsFrom g p n)
 unfolding factsFrom factAt

@@ -14,6 +14,8 @@ use Rattle.model.specs.declared.Verdict.the-variants.{Good, Refused}
 use Rattle.model.specs.Limits.{storeRoom, greatestLimit, leastAnswer}
 use Rattle.model.specs.Reading.{readOf}
 use Rattle.model.specs.Table.{tableOf}
+use Rattle.model.specs.Results.{noCounts}
+use Rattle.model.specs.Steps.{start}
 use Rattle.model.specs.Run.{Ended, run}
 use Rattle.model.specs.Goal.{goalVerdict, goalOf}
 use Rattle.model.specs.Answer.{storedBytes, answerBytes, answered}
@@ -35,7 +37,7 @@ pub record Runs (t g : List ℕ) (limit : ℕ) (buffer : List ℕ) : Type 0 wher
 
 module _ (P : RunOutput → Type 0) (t g : List ℕ) (limit : ℕ) (buffer : List ℕ)
     (refuses : (n p : ℕ) → 16 ≤ n → n ≤ 36 → p ≤ 23681 → P (refusedRun n p buffer))
-    (goes : Runs t g limit buffer → P (outputOf (run (tableOf t) (goalOf g) limit) buffer)) where
+    (goes : Runs t g limit buffer → P (outputOf (run (tableOf t) limit (start (goalOf g))) buffer)) where
   module _ (a : readOf t .verdict ≡ Good) where
     module _ (b : goalVerdict t (readOf t .symbols) g ≡ Good) where
       room-case : limit ≤ greatestLimit → (x : Bool) → leb leastAnswer (length buffer) ≡ x → P (ifRoom t g limit buffer x)
@@ -74,7 +76,7 @@ unfolding answerBytes
 answer-bytes-length [] = omega arith
 answer-bytes-length (s ∷ ss) = simp length-append (omega (arith, stored-length s, answer-bytes-length ss))
 
-answered-length : (ss : List Stored) (buffer : List ℕ) → 22 * length ss ≤ length buffer → length (answered ss buffer) ≡ length buffer
+pub answered-length : (ss : List Stored) (buffer : List ℕ) → 22 * length ss ≤ length buffer → length (answered ss buffer) ≡ length buffer
 unfolding answered
 answered-length ss buffer h = simp (length-append, length-drop) (omega (arith, answer-bytes-length ss))
 
@@ -95,7 +97,8 @@ pub record OutputKept (limit : ℕ) (buffer : List ℕ) (o : RunOutput) : Type 0
   pub answer : length (o .answer) ≡ length buffer
 
 -- a run that is not refused
-ran-kept : (t g : List ℕ) (limit : ℕ) (buffer : List ℕ) (r : Ended) → length (tableOf t .rules) ≤ 64 → EndKept (tableOf t) limit 0 0 r → Runs t g limit buffer
+ran-kept : (t g : List ℕ) (limit : ℕ) (buffer : List ℕ) (r : Ended) → length (tableOf t .rules) ≤ 64 → EndKept (tableOf t) limit noCounts r
+    → Runs t g limit buffer
     → OutputKept limit buffer (outputOf r buffer)
 unfolding outputOf
 ran-kept t g limit buffer r few e k = record {
@@ -122,5 +125,6 @@ run-output-kept t g bt bg limit buffer =
       stored = omega arith;
       answer = refl;
     })
-    (λ k. ran-kept t g limit buffer (run (tableOf t) (goalOf g) limit) (rules-few t (good-table t (k .table)))
-    (run-kept (tableOf t) (table-ranged t bt) (goalOf g) (goal-few (readOf t .symbols) g (good-goal t (readOf t .symbols) g (k .goal))) (goal-ranged g bg) limit) k)
+    (λ k. ran-kept t g limit buffer (run (tableOf t) limit (start (goalOf g))) (rules-few t (good-table t (k .table)))
+    (run-kept (tableOf t) (table-ranged t bt) (goalOf g) (goal-few (readOf t .symbols) g (good-goal t (readOf t .symbols) g (k .goal)))
+    (goal-ranged g bg) limit) k)

@@ -22,7 +22,9 @@ use Rattle.model.specs.declared.HeadPlace.{HeadPlace}
 use Rattle.model.specs.Table.{Head, Rule, heads, sameSymbol}
 use Rattle.model.specs.Guards.{unbound, guardValue}
 use Rattle.model.specs.Matching.{matchHead, matchSlots, arguments}
-use Rattle.model.specs.Search.{sameId, isAmong, nobody, Fired, firedOf, inHistory, Found, nothing, undefinedGuard, applies, unlessKnown, orElse, firstOf, andThen, factIf, storedFact, mayStand, noHead, complete, candidate, search, fromActive, withActive, firstInstance}
+use Rattle.model.specs.Search.{sameId, isAmong, nobody, Fired, firedOf, inHistory, Found, nothing, undefinedGuard, applies, unlessKnown, orElse}
+use Rattle.model.specs.Search.{firstOf, andThen, factIf, storedFact, mayStand, noHead, complete, candidate, search, fromActive, withActive}
+use Rattle.model.specs.Search.{firstInstance}
 use Rattle.model.proofs.Every.{every}
 use Rattle.model.proofs.Lists.{every-snoc, OptionIs, map-snoc, or-false-left, or-false-right, and-left, and-right, not-true}
 
@@ -115,7 +117,8 @@ module _ (P : List FactId → Binding → Type 0) where
   andThen-is none next h = tt
   andThen-is (some c) next h = h c refl
 
-  unless-is : (known : Bool) (g : Truth) (chosen : List FactId) (b : Binding) → (known ≡ false → g ≡ True → P chosen b) → FoundIs P (unlessKnown known g chosen b)
+  unless-is : (known : Bool) (g : Truth) (chosen : List FactId) (b : Binding) → (known ≡ false → g ≡ True → P chosen b)
+      → FoundIs P (unlessKnown known g chosen b)
   unless-is true g chosen b h = tt
   unless-is false True chosen b h = h refl refl
   unless-is false False chosen b h = tt
@@ -135,14 +138,17 @@ module _ (store : List Stored) (history : List Fired) (p : HeadPlace) (r : Rule)
   unfolding candidate
   partner-is h chosen b s c m e = go (mayStand active chosen (s .id)) refl e
     where
-      go : (x : Bool) → mayStand active chosen (s .id) ≡ x → _≡_ {A = Option Binding} (elim x [ true ↦ matchHead h (s .fact) b | false ↦ none ]) (some c) → Partner h chosen b s c
+      go : (x : Bool) → mayStand active chosen (s .id) ≡ x → _≡_ {A = Option Binding} (elim x [ true ↦ matchHead h (s .fact) b | false ↦ none ]) (some c)
+          → Partner h chosen b s c
       go true q e = record { stored = m; stands = q; matches = e }
       go false q e = absurd (let z : _≡_ {A = ℕ} 0 1 = cc in omega arith)
 
   -- Q: of the heads left, the choice and the binding; P: of what is found
   module _ (P : List FactId → Binding → Type 0) (Q : List Head → List FactId → Binding → Type 0)
-      (ends : (chosen : List FactId) (b : Binding) → Q [] chosen b → inHistory (firedOf (p .rule) chosen) history ≡ false → guardValue b (r .guards) ≡ True → P chosen b)
-      (puts : (h : Head) (hs : List Head) (chosen : List FactId) (b : Binding) → length chosen ≡ p .head → Q (h ∷ hs) chosen b → Q hs (chosen ++ (active ∷ [])) b)
+      (ends : (chosen : List FactId) (b : Binding) → Q [] chosen b → inHistory (firedOf (p .rule) chosen) history ≡ false → guardValue b (r .guards) ≡ True
+      → P chosen b)
+      (puts : (h : Head) (hs : List Head) (chosen : List FactId) (b : Binding) → length chosen ≡ p .head → Q (h ∷ hs) chosen b
+      → Q hs (chosen ++ (active ∷ [])) b)
       (takes : (h : Head) (hs : List Head) (chosen : List FactId) (b : Binding) (s : Stored) (c : Binding) → (length chosen ≡ p .head → ⊥)
       → Partner h chosen b s c → Q (h ∷ hs) chosen b → Q hs (chosen ++ (s .id ∷ [])) c) where
     pub search-is : (hs : List Head) (chosen : List FactId) (b : Binding) → Q hs chosen b → FoundIs P (search store history p r active hs chosen b)
@@ -153,14 +159,19 @@ module _ (store : List Stored) (history : List Fired) (p : HeadPlace) (r : Rule)
       where
         go : (x : Bool) → eqb (length chosen) (p .head) ≡ x
             → ((chosen : List FactId) (b : Binding) → Q hs chosen b → FoundIs P (search store history p r active hs chosen b))
-            → FoundIs P (elim x [ true ↦ search store history p r active hs (chosen ++ (active ∷ [])) b | false ↦ firstOf (λ s. andThen (candidate store history p r active h chosen b s) (λ c. search store history p r active hs (chosen ++ (s .id ∷ [])) c)) store ])
+            → FoundIs P (elim x [
+              | true ↦ search store history p r active hs (chosen ++ (active ∷ [])) b
+              | false ↦ firstOf
+                  (λ s. andThen (candidate store history p r active h chosen b s) (λ c. search store history p r active hs (chosen ++ (s .id ∷ [])) c)) store
+            ])
         go true q ih = ih (chosen ++ (active ∷ [])) b (puts h hs chosen b (eqb-true (length chosen) (p .head) q) k)
         go false q ih =
             firstOf-is P _ store
             (λ s m. andThen-is P (candidate store history p r active h chosen b s) (λ c. search store history p r active hs (chosen ++ (s .id ∷ [])) c)
             (λ c e. ih (chosen ++ (s .id ∷ [])) c (takes h hs chosen b s c (eqb-false (length chosen) (p .head) q) (partner-is h chosen b s c m e) k)))
 
-    pub first-is : ((f : Fact) (b : Binding) → List·Memᴰ (record { id = active; fact = f }) store → matchHead (getD (heads r) (p .head) noHead) f unbound ≡ some b → Q (heads r) [] b)
+    pub first-is : ((f : Fact) (b : Binding) → List·Memᴰ (record { id = active; fact = f }) store
+        → matchHead (getD (heads r) (p .head) noHead) f unbound ≡ some b → Q (heads r) [] b)
         → FoundIs P (firstInstance store history p r active)
     unfolding firstInstance
     first-is begins = go (storedFact active store) (stored-is active store)
@@ -241,7 +252,8 @@ module _ (store : List Stored) (history : List Fired) (p : HeadPlace) (r : Rule)
           List·getD-append chosen (s .id ∷ []) nobody (p .head) b ∙ k .here b
 
   -- the head at the active fact's place is the first of those left, if as many have been served
-  active-head : (h : Head) (hs : List Head) (chosen : List FactId) (b : Binding) (k : Partial (h ∷ hs) chosen b) → length chosen ≡ p .head → h .symbol ≡ k .fact .symbol
+  active-head : (h : Head) (hs : List Head) (chosen : List FactId) (b : Binding) (k : Partial (h ∷ hs) chosen b) → length chosen ≡ p .head
+      → h .symbol ≡ k .fact .symbol
   active-head h hs chosen b k q =
       ap (λ (x : Head). x .symbol) (sym (getD-append-seam (k .before) h hs noHead))
       ∙ ap₂ (λ (l : List Head) (i : ℕ). getD l i noHead .symbol) (k .whole) (k .counted ∙ q)

@@ -28,8 +28,11 @@ use Rattle.model.specs.declared.HeadPlace.{HeadPlace}
 use Rattle.model.specs.Limits.{storeRoom, stackRoom, historyRoom}
 use Rattle.model.specs.Table.{Head, Rule, Table, BodyItem, bodyFact, bodyFail, ruleAt, places}
 use Rattle.model.specs.Search.{Fired, Found, nothing, undefinedGuard, applies, sameId, isAmong, firedOf, firstInstance}
-use Rattle.model.specs.Steps.{State, waiting, start, argumentValues, waitingIf, itemEntry, consEntry, bodyEntries, keep, gone, without, pruned, remembered, activeEntry, activated, advanced, dropped, popIf, isRemoved, fired, Outcome, moves, fires, fails, stops, withinHistory, withinStack, withBody, withFound, atPlace, activate, stepItem}
-use Rattle.model.specs.Run.{Ended, endedAs, runFrom, run}
+use Rattle.model.specs.Steps.{State, waiting, start, argumentValues, waitingIf, itemEntry, consEntry, bodyEntries, keep, gone, without, pruned}
+use Rattle.model.specs.Steps.{remembered, prunes, activeEntry, activated, advanced, dropped, popIf, isRemoved, fired, Outcome, moves, fires}
+use Rattle.model.specs.Steps.{fails, stops, withinHistory, withinStack, withBody, withFound, atPlace, activate, stepWith, stepItem}
+use Rattle.model.specs.Results.{Counts, noCounts}
+use Rattle.model.specs.Run.{Ended, endedAs, stepped, firedOnce, runFrom, run}
 use Rattle.model.specs.Weights.{goalWeight, headsWeight, bodyWeight, bodyFacts, stepBound}
 use Rattle.model.proofs.Every.{every, every-drop}
 use Rattle.model.proofs.Lists.{keep-length, keep-keep, map-drop, OptionIs, index-is}
@@ -39,9 +42,13 @@ use Rattle.model.proofs.Places.{places-have}
 
 -- ---- what the theorem asks of weights
 
--- the rule removes more weight than its body adds, and its body has at most B facts
+-- the rule removes more weight than its body adds
+abbrev pub Loses : (Symbol → ℕ) → Rule → Type 0
+Loses w r = bodyWeight w (r .body) < headsWeight w (r .removed)
+
+-- and its body has at most B facts
 pub record Light (w : Symbol → ℕ) (B : ℕ) (r : Rule) : Type 0 where
-  pub loses : bodyWeight w (r .body) < headsWeight w (r .removed)
+  pub loses : Loses w r
   pub short : bodyFacts (r .body) ≤ B
 
 -- each symbol weighs something, each rule loses weight, no symbol has more than M head places, no body more than B facts
@@ -56,7 +63,8 @@ pub record Weighs (t : Table) (w : Symbol → ℕ) (M B : ℕ) : Type 0 where
 without-cons : (i : FactId) (is : List FactId) (ss : List Stored) → without is (without (i ∷ []) ss) ≡ without (i ∷ is) ss
 unfolding without isAmong
 without-cons i is ss =
-    keep-keep (λ (s : Stored). not (isAmong (s .id) is)) (λ (s : Stored). not (sameId (s .id) i || false)) (λ (s : Stored). not (sameId (s .id) i || isAmong (s .id) is))
+    keep-keep (λ (s : Stored). not (isAmong (s .id) is)) (λ (s : Stored). not (sameId (s .id) i || false))
+    (λ (s : Stored). not (sameId (s .id) i || isAmong (s .id) is))
     (λ s. go (sameId (s .id) i) (isAmong (s .id) is)) ss
   where
     go : (a b : Bool) → not (a || b) ≡ (not (a || false) && not b)
@@ -78,12 +86,14 @@ module _ (w : Symbol → ℕ) where
   keep-le p [] = omega arith
   keep-le p (s ∷ ss) = go (p s) (keep-le p ss)
     where
-      go : (x : Bool) → storeWeight (keep p ss) ≤ storeWeight ss → storeWeight (elim x [ true ↦ s ∷ keep p ss | false ↦ keep p ss ]) ≤ w (s .fact .symbol) + storeWeight ss
+      go : (x : Bool) → storeWeight (keep p ss) ≤ storeWeight ss
+          → storeWeight (elim x [ true ↦ s ∷ keep p ss | false ↦ keep p ss ]) ≤ w (s .fact .symbol) + storeWeight ss
       go true h = omega arith
       go false h = omega arith
 
   -- a stored fact that is not kept takes its weight along
-  keep-loses : (p : Stored → Bool) (s : Stored) → p s ≡ false → (ss : List Stored) → List·Memᴰ s ss → storeWeight (keep p ss) + w (s .fact .symbol) ≤ storeWeight ss
+  keep-loses : (p : Stored → Bool) (s : Stored) → p s ≡ false → (ss : List Stored) → List·Memᴰ s ss
+      → storeWeight (keep p ss) + w (s .fact .symbol) ≤ storeWeight ss
   unfolding storeWeight keep
   keep-loses p s d (r ∷ ss) (List·Memᴰ·head e) = go (p r) refl (keep-le p ss)
     where
@@ -114,13 +124,16 @@ module _ (w : Symbol → ℕ) where
 
   without-loses : (m : Stored) (ss : List Stored) → List·Memᴰ m ss → storeWeight (without (m .id ∷ []) ss) + w (m .fact .symbol) ≤ storeWeight ss
   unfolding without isAmong
-  without-loses m ss h = keep-loses (λ (s : Stored). not (sameId (s .id) (m .id) || false)) m (ap (λ (x : Bool). not (x || false)) (eq-eqb (m .id .0) (m .id .0) refl)) ss h
+  without-loses m ss h =
+      keep-loses (λ (s : Stored). not (sameId (s .id) (m .id) || false)) m (ap (λ (x : Bool). not (x || false)) (eq-eqb (m .id .0) (m .id .0) refl)) ss h
 
-  without-has : (m : Stored) (ss ms : List Stored) → every (λ s. List·Memᴰ s ss) ms → every (Differs m) ms → every (λ s. List·Memᴰ s (without (m .id ∷ []) ss)) ms
+  without-has : (m : Stored) (ss ms : List Stored) → every (λ s. List·Memᴰ s ss) ms → every (Differs m) ms
+      → every (λ s. List·Memᴰ s (without (m .id ∷ []) ss)) ms
   unfolding without isAmong
   without-has m ss [] u d = tt
   without-has m ss (r ∷ ms) u d = (
-    keep-has (λ (s : Stored). not (sameId (s .id) (m .id) || false)) r (ap (λ (x : Bool). not (x || false)) (ne-eqb (r .id .0) (m .id .0) (λ (q : r .id .0 ≡ m .id .0). d .0 (sym q)))) ss (u .0),
+    keep-has (λ (s : Stored). not (sameId (s .id) (m .id) || false)) r
+        (ap (λ (x : Bool). not (x || false)) (ne-eqb (r .id .0) (m .id .0) (λ (q : r .id .0 ≡ m .id .0). d .0 (sym q)))) ss (u .0),
     without-has m ss ms (u .1) (d .1),
   )
 
@@ -133,7 +146,12 @@ module _ (w : Symbol → ℕ) where
   unfolding storeWeight
   removed-weight [] ss u d = omega (arith, without-le [] ss)
   removed-weight (m ∷ ms) ss u d =
-      omega (arith, ap storeWeight (without-cons (m .id) (idsOf ms) ss), without-loses m ss (u .0), removed-weight ms (without (m .id ∷ []) ss) (without-has m ss ms (u .1) (d .0)) (d .1))
+      omega (
+        arith,
+        ap storeWeight (without-cons (m .id) (idsOf ms) ss),
+        without-loses m ss (u .0),
+        removed-weight ms (without (m .id ∷ []) ss) (without-has m ss ms (u .1) (d .0)) (d .1),
+      )
 
   whole-weight : (facts : List Stored) (hs : List Head) → symbolsOf facts ≡ headSymbols hs → storeWeight facts ≡ headsWeight w hs
   unfolding storeWeight headsWeight
@@ -145,7 +163,8 @@ module _ (w : Symbol → ℕ) where
       let q : symbolsOf facts ≡ headSymbols hs = cc in
       omega (arith, ap w p, whole-weight facts hs q)
 
-  rest-weight : (kept removed : List Head) (facts : List Stored) → symbolsOf facts ≡ headSymbols (kept ++ removed) → storeWeight (drop (length kept) facts) ≡ headsWeight w removed
+  rest-weight : (kept removed : List Head) (facts : List Stored) → symbolsOf facts ≡ headSymbols (kept ++ removed)
+      → storeWeight (drop (length kept) facts) ≡ headsWeight w removed
   rest-weight [] removed facts e = whole-weight facts removed e
   rest-weight (k ∷ kept) removed [] e = cc
   rest-weight (k ∷ kept) removed (c ∷ facts) e =
@@ -163,7 +182,8 @@ distinct-drop (suc n) [] d = tt
 distinct-drop (suc n) (s ∷ ss) d = distinct-drop n ss (d .1)
 
 -- a rule that loses weight puts nothing down in the history
-remembered-short : (w : Symbol → ℕ) (removed : List Head) (n : ℕ) → n < headsWeight w removed → (f : Fired) (is : List FactId) (fs : List Fired) → length (remembered removed f is fs) ≤ length fs
+remembered-short : (w : Symbol → ℕ) (removed : List Head) (n : ℕ) → n < headsWeight w removed → (f : Fired) (is : List FactId) (fs : List Fired)
+    → length (remembered removed f is fs) ≤ length fs
 unfolding headsWeight pruned
 remembered-short w [] n h f is fs = absurd (omega arith)
 remembered-short w (x ∷ xs) n h f is fs = keep-length _ fs
@@ -245,8 +265,9 @@ module _ (t : Table) (w : Symbol → ℕ) (M B : ℕ) where
   Falls Φ W H fails = Unit {0}
   Falls Φ W H (stops n p) = (2 < n) × (n ≡ 5 → storeRoom < W) × (n ≡ 7 → historyRoom < H)
 
-  within-falls : (Φ W H : ℕ) (x : Bool) (n : RuleNumber) (st : State) → potential (st .stack) (st .store) < Φ → weight (st .stack) (st .store) < W → length (st .history) ≤ H
-      → Falls Φ W H (withinStack x n st)
+  within-falls : (Φ W H : ℕ) (x : Bool) (n : RuleNumber) (st : State) → potential (st .stack) (st .store) < Φ → weight (st .stack) (st .store) < W
+      → length (st .history) ≤ H
+      → Falls Φ W H (withinStack prunes x n st)
   within-falls Φ W H true n st h k l = go (leb (length (st .history)) historyRoom) refl
     where
       go : (y : Bool) → leb (length (st .history)) historyRoom ≡ y → Falls Φ W H (withinHistory y n st)
@@ -268,14 +289,16 @@ module _ (t : Table) (w : Symbol → ℕ) (M B : ℕ) where
     -- a firing
     body-falls : (e : Entry) (es : List Entry) (p : HeadPlace) (i : FactId) (chosen : List FactId) (b : Binding) → Light w B (ruleAt t (p .rule))
         → Instance (st .store) (st .history) p (ruleAt t (p .rule)) i chosen b → (o : Option (List Entry)) → OptionIs (Pushed (ruleAt t (p .rule) .body)) o
-        → Falls (potential (e ∷ es) (st .store)) (weight (e ∷ es) (st .store)) (length (st .history)) (withBody t st e es p chosen o)
+        → Falls (potential (e ∷ es) (st .store)) (weight (e ∷ es) (st .store)) (length (st .history)) (withBody prunes t st e es p chosen o)
     unfolding potential weight unit fired gone
     body-falls e es p i chosen b l c none u = (omega arith, λ x. omega arith, λ x. omega arith)
     body-falls e es p i chosen b l c (some body) u =
         let r : Rule = ruleAt t (p .rule) in
         let k : ℕ = length (r .kept) in
         let rest : List Entry = popIf (isRemoved r (p .head)) e es in
-        let left = removed-weight w (drop k (c .facts)) (st .store) (every-drop (λ s. List·Memᴰ s (st .store)) k (c .facts) (c .stored)) (distinct-drop k (c .facts) (c .distinct)) in
+        let left
+        = removed-weight w (drop k (c .facts)) (st .store) (every-drop (λ s. List·Memᴰ s (st .store)) k (c .facts) (c .stored))
+        (distinct-drop k (c .facts) (c .distinct)) in
         let same : idsOf (drop k (c .facts)) ≡ drop k chosen = map-drop (λ (s : Stored). s .id) k (c .facts) ∙ ap (drop k) (c .chosenIds) in
         let less = ap (λ (is : List FactId). storeWeight w (without is (st .store))) same in
         let lost = rest-weight w (r .kept) (r .removed) (c .facts) (c .symbols) in
@@ -289,12 +312,14 @@ module _ (t : Table) (w : Symbol → ℕ) (M B : ℕ) where
 
     module _ (s : Symbol) (es : List Entry) where
       abbrev FallsFrom : Item → Outcome → Type 0
-      FallsFrom it = Falls (potential (record { symbol = s; item = it } ∷ es) (st .store)) (weight (record { symbol = s; item = it } ∷ es) (st .store)) (length (st .history))
+      FallsFrom it =
+          Falls (potential (record { symbol = s; item = it } ∷ es) (st .store)) (weight (record { symbol = s; item = it } ∷ es) (st .store))
+          (length (st .history))
 
       -- a search: Default, an undefined guard, or a firing
       found-falls : (i : FactId) (j : ℕ) (p : HeadPlace) → Light w B (ruleAt t (p .rule)) → j - 1 < length (places t s)
           → (o : Found) → FoundIs (Instance (st .store) (st .history) p (ruleAt t (p .rule)) i) o
-          → FallsFrom (Active i (record { 0 = j })) (withFound t st (activeEntry s i j) es i j p o)
+          → FallsFrom (Active i (record { 0 = j })) (withFound prunes t st (activeEntry s i j) es i j p o)
       unfolding potential weight stackWeight stackCost advanced
       found-falls i j p l k nothing u = record { cheaper = omega arith; lighter = omega arith; shorter = omega arith }
       found-falls i j p l k undefinedGuard u = (omega arith, λ x. omega arith, λ x. omega arith)
@@ -303,46 +328,54 @@ module _ (t : Table) (w : Symbol → ℕ) (M B : ℕ) where
 
       -- an active entry: Drop, or a search
       place-falls : (i : FactId) (j : ℕ) (o : Option HeadPlace) → OptionIs (λ p. Light w B (ruleAt t (p .rule)) × (j - 1 < length (places t s))) o
-          → FallsFrom (Active i (record { 0 = j })) (atPlace t st (activeEntry s i j) es i j o)
+          → FallsFrom (Active i (record { 0 = j })) (atPlace prunes t st (activeEntry s i j) es i j o)
       unfolding potential weight stackWeight stackCost dropped
       place-falls i j none u = record { cheaper = omega arith; lighter = omega arith; shorter = omega arith }
-      place-falls i j (some p) u = found-falls i j p (u .0) (u .1) (firstInstance (st .store) (st .history) p (ruleAt t (p .rule)) i) (instance-is (st .store) (st .history) p (ruleAt t (p .rule)) i)
+      place-falls i j (some p) u =
+          found-falls i j p (u .0) (u .1) (firstInstance (st .store) (st .history) p (ruleAt t (p .rule)) i)
+          (instance-is (st .store) (st .history) p (ruleAt t (p .rule)) i)
 
-      activate-falls : (f : Fact) (x : Bool) → ltb (length (st .store)) storeRoom ≡ x → FallsFrom (Waiting f) (activate t st (record { symbol = s; item = Waiting f }) es f x)
+      activate-falls : (f : Fact) (x : Bool) → ltb (length (st .store)) storeRoom ≡ x
+          → FallsFrom (Waiting f) (activate st (record { symbol = s; item = Waiting f }) es f x)
       unfolding potential weight stackWeight stackCost activated
       activate-falls f true q =
-          let now : weight (activeEntry s (record { 0 = st .next }) 1 ∷ es) (st .store ++ (record { id = record { 0 = st .next }; fact = f } ∷ [])) ≡ weight (record { symbol = s; item = Waiting f } ∷ es) (st .store)
-          = omega (arith, storeWeight-snoc w (st .store) (record { id = record { 0 = st .next }; fact = f })) in
+          let new : Stored = record { id = record { 0 = st .next }; fact = f } in
+          let now : weight (activeEntry s (record { 0 = st .next }) 1 ∷ es) (st .store ++ (new ∷ []))
+          ≡ weight (record { symbol = s; item = Waiting f } ∷ es) (st .store)
+          = omega (arith, storeWeight-snoc w (st .store) new) in
           record { cheaper = omega (arith, ap (λ (x : ℕ). x * unit) now, h .fewPlaces s); lighter = omega arith; shorter = omega arith }
-      activate-falls f false q =
-          (omega arith, λ x. omega (arith, ltb-false (length (st .store)) storeRoom q, light-store w (h .something) (st .store), h .something (f .symbol)), λ x. omega arith)
+      activate-falls f false q = (
+        omega arith,
+        λ x. omega (arith, ltb-false (length (st .store)) storeRoom q, light-store w (h .something) (st .store), h .something (f .symbol)),
+        λ x. omega arith,
+      )
 
       step-falls : (it : Item) → FallsFrom it (stepItem t st (record { symbol = s; item = it }) es it)
-      unfolding stepItem
+      unfolding stepWith
       step-falls (Waiting f) = activate-falls f (ltb (length (st .store)) storeRoom) refl
       step-falls (Active i j) =
           place-falls i (j .0) (getElem? (places t s) (j .0 - 1))
           (index-is (λ (p : HeadPlace). Light w B (ruleAt t (p .rule))) (places t s) (j .0 - 1) (places-have t s (Light w B) (h .rules)))
       step-falls Fail = tt
 
-  -- ---- the run, from a state after k steps and f firings, with `limit` steps left
+  -- ---- the run, from a state with the counts c, with `limit` steps left
 
-  pub record Bounded (limit k f Φ W H : ℕ) (r : Ended) : Type 0 where
-    pub steps : r .result .steps ≤ k + Φ + 1
-    pub firings : r .result .firings ≤ f + W
+  pub record Bounded (limit : ℕ) (c : Counts) (Φ W H : ℕ) (r : Ended) : Type 0 where
+    pub steps : r .result .steps ≤ c .steps + Φ + 1
+    pub firings : r .result .firings ≤ c .firings + W
     pub limitless : Φ < limit → r .result .number ≡ 2 → ⊥
     pub roomy : W ≤ storeRoom → r .result .number ≡ 5 → ⊥
     pub forgetful : H ≤ historyRoom → r .result .number ≡ 7 → ⊥
 
-  abbrev BoundedFrom : ℕ → ℕ → ℕ → State → Ended → Type 0
-  BoundedFrom limit k f st = Bounded limit k f (potential (st .stack) (st .store)) (weight (st .stack) (st .store)) (length (st .history))
+  abbrev BoundedFrom : ℕ → Counts → State → Ended → Type 0
+  BoundedFrom limit c st = Bounded limit c (potential (st .stack) (st .store)) (weight (st .stack) (st .store)) (length (st .history))
 
   -- what follows the outcome o of one more step, if the rest of the run is bounded
-  next-bounded : (limit k f Φ W H : ℕ) (st : State) → ((k f : ℕ) (st : State) → BoundedFrom limit k f st (runFrom t limit k f st))
-      → (o : Outcome) → Falls Φ W H o → Bounded (suc limit) k f Φ W H (behindStep t limit k f st o)
+  next-bounded : (limit : ℕ) (c : Counts) (Φ W H : ℕ) (st : State) → ((c : Counts) (st : State) → BoundedFrom limit c st (runFrom t limit c st))
+      → (o : Outcome) → Falls Φ W H o → Bounded (suc limit) c Φ W H (behindStep prunes t limit c st o)
   unfolding endedAs
-  next-bounded limit k f Φ W H st rest (moves next) u =
-      let r = rest (suc k) f next in
+  next-bounded limit c Φ W H st rest (moves next) u =
+      let r = rest (stepped c) next in
       record {
         steps = omega (arith, r .steps, u .cheaper);
         firings = omega (arith, r .firings, u .lighter);
@@ -350,8 +383,8 @@ module _ (t : Table) (w : Symbol → ℕ) (M B : ℕ) where
         roomy = λ l. r .roomy (omega (arith, u .lighter));
         forgetful = λ l. r .forgetful (omega (arith, u .shorter));
       }
-  next-bounded limit k f Φ W H st rest (fires next) u =
-      let r = rest (suc k) (suc f) next in
+  next-bounded limit c Φ W H st rest (fires next) u =
+      let r = rest (firedOnce c) next in
       record {
         steps = omega (arith, r .steps, u .0 .cheaper);
         firings = omega (arith, r .firings, u .1);
@@ -359,18 +392,37 @@ module _ (t : Table) (w : Symbol → ℕ) (M B : ℕ) where
         roomy = λ l. r .roomy (omega (arith, u .0 .lighter));
         forgetful = λ l. r .forgetful (omega (arith, u .0 .shorter));
       }
-  next-bounded limit k f Φ W H st rest fails u =
-      record { steps = omega arith; firings = omega arith; limitless = λ l q. omega arith; roomy = λ l q. omega arith; forgetful = λ l q. omega arith }
-  next-bounded limit k f Φ W H st rest (stops n p) u =
-      record { steps = omega arith; firings = omega arith; limitless = λ l q. omega (arith, u .0); roomy = λ l q. omega (arith, u .1 q); forgetful = λ l q. omega (arith, u .2 q) }
+  next-bounded limit c Φ W H st rest fails u = record {
+    steps = omega arith;
+    firings = omega arith;
+    limitless = λ l q. omega arith;
+    roomy = λ l q. omega arith;
+    forgetful = λ l q. omega arith;
+  }
+  next-bounded limit c Φ W H st rest (stops n p) u = record {
+    steps = omega arith;
+    firings = omega arith;
+    limitless = λ l q. omega (arith, u .0);
+    roomy = λ l q. omega (arith, u .1 q);
+    forgetful = λ l q. omega (arith, u .2 q);
+  }
 
-  run-bounded : Weighs t w M B → (limit k f : ℕ) (st : State) → BoundedFrom limit k f st (runFrom t limit k f st)
+  -- an ending at once, in 0 or in 2 without a step left
+  at-once : (limit : ℕ) (c : Counts) (st : State) (n : ℕ) → n ≤ 2 → (n ≡ 2 → limit ≡ 0) → BoundedFrom limit c st (endedAs n 0 c st)
   unfolding endedAs
+  at-once limit c st n h z = record {
+    steps = omega arith;
+    firings = omega arith;
+    limitless = λ l q. omega (arith, z q);
+    roomy = λ l q. omega arith;
+    forgetful = λ l q. omega arith;
+  }
+
+  run-bounded : Weighs t w M B → (limit : ℕ) (c : Counts) (st : State) → BoundedFrom limit c st (runFrom t limit c st)
   run-bounded h =
-      every-run t BoundedFrom
-      (λ limit k f st q. record { steps = omega arith; firings = omega arith; limitless = λ l q. omega arith; roomy = λ l q. omega arith; forgetful = λ l q. omega arith })
-      (λ k f st. record { steps = omega arith; firings = omega arith; limitless = λ l q. omega arith; roomy = λ l q. omega arith; forgetful = λ l q. omega arith })
-      (λ limit k f st e es q ih. next-bounded limit k f (potential (st .stack) (st .store)) (weight (st .stack) (st .store)) (length (st .history)) st ih (stepItem t st e es (e .item))
+      every-run t BoundedFrom (λ limit c st q. at-once limit c st 0 (omega arith) (λ z. omega arith)) (λ c st. at-once 0 c st 2 (omega arith) (λ z. refl))
+      (λ limit c st e es q ih. next-bounded limit c (potential (st .stack) (st .store)) (weight (st .stack) (st .store)) (length (st .history)) st ih
+      (stepItem t st e es (e .item))
       (subst (λ (l : List Entry). Falls (potential l (st .store)) (weight l (st .store)) (length (st .history)) (stepItem t st e es (e .item))) (sym q)
       (step-falls h st (e .symbol) es (e .item))))
 
@@ -393,16 +445,16 @@ module _ (t : Table) (w : Symbol → ℕ) (M B : ℕ) where
 
   -- The third demand, and that no history is ever needed.
   pub record Demand3 (goal : List Fact) (limit : ℕ) : Type 0 where
-    pub steps : run t goal limit .result .steps ≤ stepBound (length goal) B (goalWeight w goal) M
-    pub firings : run t goal limit .result .firings ≤ goalWeight w goal
-    pub neverLimit : stepBound (length goal) B (goalWeight w goal) M ≤ limit → run t goal limit .result .number ≡ 2 → ⊥
-    pub neverFull : goalWeight w goal ≤ storeRoom → run t goal limit .result .number ≡ 5 → ⊥
-    pub neverHistory : run t goal limit .result .number ≡ 7 → ⊥
+    pub steps : run t limit (start goal) .result .steps ≤ stepBound (length goal) B (goalWeight w goal) M
+    pub firings : run t limit (start goal) .result .firings ≤ goalWeight w goal
+    pub neverLimit : stepBound (length goal) B (goalWeight w goal) M ≤ limit → run t limit (start goal) .result .number ≡ 2 → ⊥
+    pub neverFull : goalWeight w goal ≤ storeRoom → run t limit (start goal) .result .number ≡ 5 → ⊥
+    pub neverHistory : run t limit (start goal) .result .number ≡ 7 → ⊥
 
   pub demand3 : Weighs t w M B → (goal : List Fact) (limit : ℕ) → Demand3 goal limit
   unfolding run start stepBound weight unit storeWeight
   demand3 h goal limit =
-      let r = run-bounded h limit 0 0 (start goal) in
+      let r = run-bounded h limit noCounts (start goal) in
       let sw = start-weight goal in
       let sp = start-potential goal in
       record {

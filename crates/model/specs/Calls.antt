@@ -13,14 +13,12 @@ use Rattle.model.specs.declared.Verdict.the-variants.{Good, Refused}
 use Rattle.model.specs.Limits.{greatestLimit, leastAnswer}
 use Rattle.model.specs.Reading.{readOf}
 use Rattle.model.specs.Table.{Table, tableOf}
+use Rattle.model.specs.Results.{refusal}
+use Rattle.model.specs.Steps.{start}
 use Rattle.model.specs.Run.{Ended, run}
 use Rattle.model.specs.Goal.{goalVerdict, goalOf}
 use Rattle.model.specs.Answer.{answered}
 use Rattle.model.specs.Weights.{weightIn, goalWeight, mostPlaces, mostFacts, stepBound, firstZero, firstHeavy}
-
--- "Numbers 16 and above have all four counts 0."
-abbrev pub refusal : ℕ → ℕ → CallResult
-refusal n p = record { number = n; place = p; steps = 0; firings = 0; identifiers = 0; stored = 0 }
 
 -- ---- check: "Checking a good table gives six zeros."
 
@@ -51,7 +49,7 @@ refusedRun n p buffer = record { result = refusal n p; answer = buffer }
 
 module _ (t g : List ℕ) (limit : ℕ) (buffer : List ℕ) where
   abbrev pub ifRoom : Bool → RunOutput
-  ifRoom true = outputOf (run (tableOf t) (goalOf g) limit) buffer
+  ifRoom true = outputOf (run (tableOf t) limit (start (goalOf g))) buffer
   ifRoom false = refusedRun 36 0 buffer
 
   abbrev pub ifLimit : Bool → RunOutput

@@ -10,6 +10,7 @@ pub mod Guards
 pub mod Matching
 pub mod Search
 pub mod Steps
+pub mod Results
 pub mod Run
 pub mod Goal
 pub mod Answer

@@ -105,6 +105,15 @@ abbrev pub remembered : List Head → Fired → List FactId → List Fired → L
 remembered [] f is fs = fs ++ (f ∷ [])
 remembered (h ∷ hs) f is fs = pruned is fs
 
+-- what a history holds after a firing, and whether it has room for that: a run's prunes, and Keeping has one that keeps all
+pub record Memory : Type 0 where
+  pub after : List Head → Fired → List FactId → List Fired → List Fired
+  pub fits : List Fired → Bool
+
+-- the history of a run: "history 256"
+abbrev pub prunes : Memory
+prunes = record { after = remembered; fits = λ fs. leb (length fs) historyRoom }
+
 -- ---- the state after each kind of step; e is the top entry and es is what lies under it
 
 abbrev pub activeEntry : Symbol → FactId → ℕ → Entry
@@ -136,11 +145,11 @@ unfoldable pub isRemoved : Rule → ℕ → Bool
 isRemoved r head = leb (length (r .kept)) head
 
 -- "The body goes on the stack, first item on top."
-unfoldable pub fired : State → Entry → List Entry → HeadPlace → Rule → List FactId → List Entry → State
-fired st e es p r chosen body = record {
+unfoldable pub fired : Memory → State → Entry → List Entry → HeadPlace → Rule → List FactId → List Entry → State
+fired m st e es p r chosen body = record {
   stack = body ++ popIf (isRemoved r (p .head)) e es;
   store = without (gone r chosen) (st .store);
-  history = remembered (r .removed) (firedOf (p .rule) chosen) (gone r chosen) (st .history);
+  history = m .after (r .removed) (firedOf (p .rule) chosen) (gone r chosen) (st .history);
   next = st .next;
 }
 
@@ -157,16 +166,21 @@ abbrev pub withinHistory : Bool → RuleNumber → State → Outcome
 withinHistory true n after = fires after
 withinHistory false n after = stops 7 (n .0)
 
-abbrev pub withinStack : Bool → RuleNumber → State → Outcome
-withinStack true n after = withinHistory (leb (length (after .history)) historyRoom) n after
-withinStack false n after = stops 6 (n .0)
+abbrev pub withinStack : Memory → Bool → RuleNumber → State → Outcome
+withinStack m true n after = withinHistory (m .fits (after .history)) n after
+withinStack m false n after = stops 6 (n .0)
 
-module _ (t : Table) (st : State) (e : Entry) (es : List Entry) where
+-- 5: "Activate with 128 facts stored"
+abbrev pub activate : State → Entry → List Entry → Fact → Bool → Outcome
+activate st e es f true = moves (activated st e es f)
+activate st e es f false = stops 5 0
+
+module _ (m : Memory) (t : Table) (st : State) (e : Entry) (es : List Entry) where
   abbrev pub withBody : HeadPlace → List FactId → Option (List Entry) → Outcome
   withBody p chosen none = stops 4 (p .rule .0)
   withBody p chosen (some body) =
-      let after = fired st e es p (ruleAt t (p .rule)) chosen body in
-      withinStack (leb (length (after .stack)) stackRoom) (p .rule) after
+      let after = fired m st e es p (ruleAt t (p .rule)) chosen body in
+      withinStack m (leb (length (after .stack)) stackRoom) (p .rule) after
 
   -- Default, an undefined guard, or a firing
   abbrev pub withFound : FactId → ℕ → HeadPlace → Found → Outcome
@@ -179,13 +193,12 @@ module _ (t : Table) (st : State) (e : Entry) (es : List Entry) where
   atPlace i j none = moves (dropped st es)
   atPlace i j (some p) = withFound i j p (firstInstance (st .store) (st .history) p (ruleAt t (p .rule)) i)
 
-  -- 5: "Activate with 128 facts stored"
-  abbrev pub activate : Fact → Bool → Outcome
-  activate f true = moves (activated st e es f)
-  activate f false = stops 5 0
-
   -- "the top entry decides". Occurrences are counted from 1
-  unfoldable pub stepItem : Item → Outcome
-  stepItem (Waiting f) = activate f (ltb (length (st .store)) storeRoom)
-  stepItem (Active i j) = atPlace i (j .0) (getElem? (places t (e .symbol)) (j .0 - 1))
-  stepItem Fail = fails
+  unfoldable pub stepWith : Item → Outcome
+  stepWith (Waiting f) = activate st e es f (ltb (length (st .store)) storeRoom)
+  stepWith (Active i j) = atPlace i (j .0) (getElem? (places t (e .symbol)) (j .0 - 1))
+  stepWith Fail = fails
+
+-- a step of a run
+abbrev pub stepItem : Table → State → Entry → List Entry → Item → Outcome
+stepItem = stepWith prunes

@@ -1,9 +1,8 @@
 // The types that every crate of the engine shares. The definition (specs/) speaks of them too, so that a
 // contract can name the definition's own value.
 ghost use mathlib.Core.Path.{_≡_};
-ghost use lib.ListN.{replicate};
 ghost use Rattle.model.specs.Steps.{failEntry, noStored};
-ghost use Rattle.model.specs.Guards.{unbound};
+ghost use Rattle.model.specs.Results.{countsOf, resultOf, refusal};
 
 // Identifiers, symbols, rules and occurrences count separate things: no one of them passes as another.
 pub struct FactId(pub u32);
@@ -43,7 +42,7 @@ pub struct Entry {
 }
 
 // A firing in the history: the rule, and the identifiers in head order, 0 where the rule has no such head.
-pub type HistoryEntry = [u32; 5];
+pub type HistoryEntry = [u32; 1 + Rule::HEADS];
 
 // ---- a fresh state: what the places of its arrays hold before anything does
 
@@ -94,22 +93,8 @@ pub struct Expression {
 
 // What the variables 0..15 are bound to, where they are.
 pub struct Binding {
-    pub values: [i32; 16],
-    pub bound: [bool; 16],
-}
-
-impl Binding {
-    // No variable is bound.
-    pub fn empty() -> Binding
-        ensures { λ r. ⌜ r ≡ unbound ⌝ }
-    {
-        let values = [0i32; 16];
-        let bound = [false; 16];
-        Binding {
-            values: values,
-            bound: bound,
-        }
-    }
+    pub values: [i32; Rule::VARIABLES],
+    pub bound: [bool; Rule::VARIABLES],
 }
 
 // Where a rule stands in its table's bytes, and how many parts of each sort it has; `heads` counts kept and removed ones.
@@ -175,7 +160,7 @@ pub struct Reading {
     pub verdict: Verdict,
     pub symbols: u8,
     pub rules: u8,
-    pub shapes: [RuleShape; 64],
+    pub shapes: [RuleShape; Table::RULES],
 }
 
 // ---- results
@@ -188,6 +173,39 @@ pub struct CallResult {
     pub firings: u32,
     pub identifiers: u32,
     pub stored: u32,
+}
+
+impl CallResult {
+    // How many words of 32 bits a result is.
+    pub const WORDS: usize = 6;
+
+    // Every result is built here.
+    pub fn new(
+        number: u8,
+        place: u32,
+        steps: u32,
+        firings: u32,
+        identifiers: u32,
+        stored: u32,
+    ) -> CallResult
+        ensures { λ r. ⌜ r ≡ resultOf number place (countsOf steps firings) identifiers stored ⌝ }
+    {
+        CallResult {
+            number: number as u32,
+            place: place,
+            steps: steps,
+            firings: firings,
+            identifiers: identifiers,
+            stored: stored,
+        }
+    }
+
+    // "Numbers 16 and above have all four counts 0."
+    pub fn refusal(number: u8, place: u32) -> CallResult
+        ensures { λ r. ⌜ r ≡ refusal number place ⌝ }
+    {
+        CallResult::new(number, place, 0, 0, 0, 0)
+    }
 }
 
 // A weighing: its result, W and the step bound.
@@ -207,7 +225,23 @@ impl Table {
 
     pub const RULES: usize = 64;
 
+    // the head places of all rules
+    pub const PLACES: usize = Table::RULES * Rule::HEADS;
+
     pub const LONGEST: usize = 23681;
+}
+
+pub struct Rule;
+
+impl Rule {
+    pub const HEADS: usize = 4;
+
+    pub const GUARDS: usize = 4;
+
+    pub const ITEMS: usize = 4;
+
+    // "variable, value 0..15"
+    pub const VARIABLES: usize = 16;
 }
 
 // "Goal 0..64 facts."

@@ -2,21 +2,27 @@
 use Prim.Native.Nat.{ℕ}
 use mathlib.Core.Path.{_≡_, refl, ap}
 use mathlib.Core.List.{List, [], _∷_}
+use lib.ListN.{length}
 use Rattle.model.specs.declared.CallResult.{CallResult}
 use Rattle.model.specs.declared.Weighing.{Weighing}
+use Rattle.model.specs.Results.{resultWords}
 use Rattle.model.specs.Calls.{RunOutput}
-use Rattle.engine.specs.Arrays.{Ran}
+use Rattle.engine.specs.Called.{Ran}
 use Rattle.finding_weights.specs.Find.{Finding, Gives}
-use Rattle.nadhirukh.specs.Words.{Given, RunGiven, WeighGiven, FindGiven}
+use Rattle.nadhirukh.specs.Words.{wordsOf, Given, RunGiven, WeighGiven, FindGiven}
 
-pub given : {r d : CallResult} {six : List ℕ} {n : ℕ} → r ≡ d → Given r six n → Given d six n
+-- as many words as a result is said to have
+pub words-counted : (r : CallResult) → length (wordsOf r) ≡ resultWords
+words-counted r = refl
+
+pub given : {r d : CallResult} {words : List ℕ} {n : ℕ} → r ≡ d → Given r words n → Given d words n
 given e g = rw e at g
 
-pub run-given : {o : RunOutput} {r : CallResult} {answer six : List ℕ} {n : ℕ} → Ran o r answer → Given r six n → RunGiven o answer six n
+pub run-given : {o : RunOutput} {r : CallResult} {answer words : List ℕ} {n : ℕ} → Ran o r answer → Given r words n → RunGiven o answer words n
 run-given e g = record { bytes = e .answered; given = given (e .result) g }
 
-pub weigh-given : {w v : Weighing} {six : List ℕ} {n : ℕ} → w ≡ v → Given (w .result) six n → WeighGiven v six (w .weight ∷ w .bound ∷ []) n
+pub weigh-given : {w v : Weighing} {words : List ℕ} {n : ℕ} → w ≡ v → Given (w .result) words n → WeighGiven v words (w .weight ∷ w .bound ∷ []) n
 weigh-given e g = record { given = given (ap (λ (x : Weighing). x .result) e) g; bound = ap (λ (x : Weighing). x .weight ∷ x .bound ∷ []) e }
 
-pub find-given : {o : Finding} {r : CallResult} {weights six : List ℕ} {n : ℕ} → Gives o r weights → Given r six n → FindGiven o weights six n
+pub find-given : {o : Finding} {r : CallResult} {weights words : List ℕ} {n : ℕ} → Gives o r weights → Given r words n → FindGiven o weights words n
 find-given e g = record { bytes = e .bytes; given = given (e .result) g }

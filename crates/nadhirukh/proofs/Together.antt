@@ -16,48 +16,48 @@ use Rattle.nadhirukh.specs.Words.{Given, RunGiven, WeighGiven, FindGiven
 
 -- ---- each call has one outcome
 
--- the six words and the number returned
-pub record Same (six six′ : List ℕ) (n n′ : ℕ) : Type 0 where
-  pub words : six ≡ six′
+-- the words and the number returned
+pub record Same (told told′ : List ℕ) (n n′ : ℕ) : Type 0 where
+  pub words : told ≡ told′
   pub returned : n ≡ n′
 
 -- the answer's bytes too
-pub record SameRun (answer answer′ six six′ : List ℕ) (n n′ : ℕ) : Type 0 where
+pub record SameRun (answer answer′ told told′ : List ℕ) (n n′ : ℕ) : Type 0 where
   pub bytes : answer ≡ answer′
-  pub given : Same six six′ n n′
+  pub given : Same told told′ n n′
 
 -- W and the bound too
-pub record SameWeighing (six six′ two two′ : List ℕ) (n n′ : ℕ) : Type 0 where
-  pub given : Same six six′ n n′
+pub record SameWeighing (told told′ two two′ : List ℕ) (n n′ : ℕ) : Type 0 where
+  pub given : Same told told′ n n′
   pub bound : two ≡ two′
 
-pub one-given : {r : CallResult} {six six′ : List ℕ} {n n′ : ℕ} → Given r six n → Given r six′ n′ → Same six six′ n n′
+pub one-given : {r : CallResult} {told told′ : List ℕ} {n n′ : ℕ} → Given r told n → Given r told′ n′ → Same told told′ n n′
 one-given a b = record { words = a .words ∙ sym (b .words); returned = a .returned ∙ sym (b .returned) }
 
-pub one-run-given : {o : RunOutput} {answer answer′ six six′ : List ℕ} {n n′ : ℕ} → RunGiven o answer six n → RunGiven o answer′ six′ n′
-    → SameRun answer answer′ six six′ n n′
+pub one-run-given : {o : RunOutput} {answer answer′ told told′ : List ℕ} {n n′ : ℕ} → RunGiven o answer told n → RunGiven o answer′ told′ n′
+    → SameRun answer answer′ told told′ n n′
 one-run-given a b = record { bytes = a .bytes ∙ sym (b .bytes); given = one-given (a .given) (b .given) }
 
-pub one-weigh-given : {w : Weighing} {six six′ two two′ : List ℕ} {n n′ : ℕ} → WeighGiven w six two n → WeighGiven w six′ two′ n′
-    → SameWeighing six six′ two two′ n n′
+pub one-weigh-given : {w : Weighing} {told told′ two two′ : List ℕ} {n n′ : ℕ} → WeighGiven w told two n → WeighGiven w told′ two′ n′
+    → SameWeighing told told′ two two′ n n′
 one-weigh-given a b = record { given = one-given (a .given) (b .given); bound = a .bound ∙ sym (b .bound) }
 
 -- the buffer's bytes too
-pub record SameFind (weights weights′ six six′ : List ℕ) (n n′ : ℕ) : Type 0 where
+pub record SameFind (weights weights′ told told′ : List ℕ) (n n′ : ℕ) : Type 0 where
   pub bytes : weights ≡ weights′
-  pub given : Same six six′ n n′
+  pub given : Same told told′ n n′
 
-pub one-find-given : {o : Finding} {weights weights′ six six′ : List ℕ} {n n′ : ℕ} → FindGiven o weights six n → FindGiven o weights′ six′ n′
-    → SameFind weights weights′ six six′ n n′
+pub one-find-given : {o : Finding} {weights weights′ told told′ : List ℕ} {n n′ : ℕ} → FindGiven o weights told n → FindGiven o weights′ told′ n′
+    → SameFind weights weights′ told told′ n n′
 one-find-given a b = record { bytes = a .bytes ∙ sym (b .bytes); given = one-given (a .given) (b .given) }
 
 -- ---- a weighing, then a run
 
 abbrev pub steps : List ℕ → ℕ
-steps six = getD six 2 0
+steps told = getD told 2 0
 
 abbrev pub firings : List ℕ → ℕ
-firings six = getD six 3 0
+firings told = getD told 3 0
 
 abbrev pub weight : List ℕ → ℕ
 weight two = getD two 0 0
@@ -65,10 +65,10 @@ weight two = getD two 0 0
 abbrev pub bound : List ℕ → ℕ
 bound two = getD two 1 0
 
--- what the weighing's two words say of the run's six and of the number that it returns
-pub record Bounded (two : List ℕ) (limit : ℕ) (six : List ℕ) (number : ℕ) : Type 0 where
-  pub fewSteps : steps six ≤ bound two
-  pub fewFirings : firings six ≤ weight two
+-- what the weighing's two words say of the run's words and of the number that it returns
+pub record Bounded (two : List ℕ) (limit : ℕ) (told : List ℕ) (number : ℕ) : Type 0 where
+  pub fewSteps : steps told ≤ bound two
+  pub fewFirings : firings told ≤ weight two
   pub neverLimit : bound two ≤ limit → number ≡ 2 → ⊥
   pub neverFull : weight two ≤ storeRoom → number ≡ 5 → ⊥
   pub neverHistory : number ≡ 7 → ⊥

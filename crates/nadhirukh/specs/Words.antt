@@ -7,25 +7,25 @@ use Rattle.model.specs.declared.Weighing.{Weighing}
 use Rattle.model.specs.Calls.{RunOutput}
 use Rattle.finding_weights.specs.Find.{Finding}
 
-abbrev pub sixOf : CallResult → List ℕ
-sixOf r = r .number ∷ r .place ∷ r .steps ∷ r .firings ∷ r .identifiers ∷ r .stored ∷ []
+abbrev pub wordsOf : CallResult → List ℕ
+wordsOf r = r .number ∷ r .place ∷ r .steps ∷ r .firings ∷ r .identifiers ∷ r .stored ∷ []
 
--- what a call gives back: the six words that C reads behind `result`, and the number that is returned
-pub record Given (r : CallResult) (six : List ℕ) (number : ℕ) : Type 0 where
-  pub words : six ≡ sixOf r
+-- what a call gives back: the words that C reads behind `result`, and the number that is returned
+pub record Given (r : CallResult) (told : List ℕ) (number : ℕ) : Type 0 where
+  pub words : told ≡ wordsOf r
   pub returned : number ≡ r .number
 
 -- a run gives back the answer's bytes too
-pub record RunGiven (o : RunOutput) (answer six : List ℕ) (number : ℕ) : Type 0 where
+pub record RunGiven (o : RunOutput) (answer told : List ℕ) (number : ℕ) : Type 0 where
   pub bytes : answer ≡ o .answer
-  pub given : Given (o .result) six number
+  pub given : Given (o .result) told number
 
 -- a weighing gives back W and the step bound too
-pub record WeighGiven (w : Weighing) (six two : List ℕ) (number : ℕ) : Type 0 where
-  pub given : Given (w .result) six number
+pub record WeighGiven (w : Weighing) (told two : List ℕ) (number : ℕ) : Type 0 where
+  pub given : Given (w .result) told number
   pub bound : two ≡ w .weight ∷ w .bound ∷ []
 
 -- looking for weights gives back the buffer's bytes too
-pub record FindGiven (o : Finding) (weights six : List ℕ) (number : ℕ) : Type 0 where
+pub record FindGiven (o : Finding) (weights told : List ℕ) (number : ℕ) : Type 0 where
   pub bytes : weights ≡ o .weights
-  pub given : Given (o .result) six number
+  pub given : Given (o .result) told number

@@ -4,8 +4,8 @@ ghost use Rattle.finding_weights.specs.Find.{findOf};
 ghost use Rattle.nadhirukh.specs.Words.{Given, RunGiven, WeighGiven, FindGiven};
 use model::CallResult;
 
-// The result's six words, and its number.
-fn give(r: CallResult, result: &mut [u32; 6]) -> u32
+// The result's words, and its number.
+fn give(r: CallResult, result: &mut [u32; CallResult::WORDS]) -> u32
     ensures { λ n. ⌜ Given r (now (result .exit)) n ⌝ }
 {
     *result = [
@@ -20,7 +20,7 @@ fn give(r: CallResult, result: &mut [u32; 6]) -> u32
 }
 
 #[no_mangle]
-pub extern "C" fn nadhirukh_check(table: &[u8], result: &mut [u32; 6]) -> u32
+pub extern "C" fn nadhirukh_check(table: &[u8], result: &mut [u32; CallResult::WORDS]) -> u32
     ensures { λ n. ⌜ Given (checkOf (now (table .entry))) (now (result .exit)) n ⌝ }
 {
     give(table::check(table), result)
@@ -32,7 +32,7 @@ pub extern "C" fn nadhirukh_run(
     goal: &[u8],
     limit: u32,
     answer: &mut [u8],
-    result: &mut [u32; 6],
+    result: &mut [u32; CallResult::WORDS],
 ) -> u32
     ensures { λ n. ⌜ RunGiven (runOf (now (table .entry)) (now (goal .entry)) limit (now (answer .entry))) (now (answer .exit)) (now (result .exit)) n ⌝ }
 {
@@ -44,7 +44,7 @@ pub extern "C" fn nadhirukh_weigh(
     table: &[u8],
     weights: &[u8],
     goal: &[u8],
-    result: &mut [u32; 6],
+    result: &mut [u32; CallResult::WORDS],
     bound: &mut [u32; 2],
 ) -> u32
     ensures { λ n. ⌜ WeighGiven (weighOf (now (table .entry)) (now (weights .entry)) (now (goal .entry))) (now (result .exit)) (now (bound .exit)) n ⌝ }
@@ -59,7 +59,7 @@ pub extern "C" fn nadhirukh_weigh(
 pub extern "C" fn nadhirukh_find_weights(
     table: &[u8],
     weights: &mut [u8],
-    result: &mut [u32; 6],
+    result: &mut [u32; CallResult::WORDS],
 ) -> u32
     ensures { λ n. ⌜ FindGiven (findOf (now (table .entry)) (now (weights .entry))) (now (weights .exit)) (now (result .exit)) n ⌝ }
 {

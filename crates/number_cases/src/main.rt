@@ -1,5 +1,5 @@
 // The edges of numbers and words, run: each case of the standard input is worked out and printed on a line of its own.
-// scripts/edges.py writes the cases, and the lines expected of them, from the rules alone.
+// scripts/number_cases.py writes the cases, and the lines expected of them, from the rules alone.
 //
 // A case is 12 bytes: a kind, a number, and ten more. Kind 0 is the operation of that number and kind 1 the comparator, on two
 // sides, each a tag (0: undefined) and four bytes of value. Kind 2 reads at that place of the case itself, and at the last place

@@ -16,7 +16,8 @@ use borrow.Author.Tests.{lt-leb, eq-eqb, eqb-true}
 use Rattle.numbers.specs.declared.Value.{Value}
 use Rattle.numbers.specs.declared.Value.the-variants.{Number, Undefined}
 use Rattle.numbers.specs.declared.Truth.the-variants.{Undefined as Unknown}
-use Rattle.numbers.specs.Numbers.{lowest, highest, inRange, exact, equal, unlessZero, sumOf, differenceOf, productOf, quotientOf, remainderOf, operate, onNumbers, evaluate, judge, compare}
+use Rattle.numbers.specs.Numbers.{lowest, highest, inRange, exact, equal, unlessZero, sumOf, differenceOf, productOf, quotientOf, remainderOf}
+use Rattle.numbers.specs.Numbers.{operate, onNumbers, evaluate, judge, compare}
 
 -- ---- a value that is a number lies in the range
 

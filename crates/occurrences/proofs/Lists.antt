@@ -31,14 +31,18 @@ frame : (rules heads : List ℕ) (c r h n : ℕ) → n ≤ c → listOf (set rul
 unfolding listOf
 frame rules heads c r h zero l = refl
 frame rules heads c r h (suc n) l =
-    rw (frame rules heads c r h n (omega arith), getD-set-other rules c n r 0 (λ (e : n ≡ c). omega arith), getD-set-other heads c n h 0 (λ (e : n ≡ c). omega arith))
+    let other : n ≡ c → ⊥ = λ (e : n ≡ c). omega arith in
+    rw (frame rules heads c r h n (omega arith), getD-set-other rules c n r 0 other, getD-set-other heads c n h 0 other)
 
-pub list-put : (rules heads : List ℕ) (c r h : ℕ) → c < length rules → c < length heads → listOf (set rules c r) (set heads c h) (c + 1) ≡ listOf rules heads c ++ (record { rule = record { 0 = r }; head = h } ∷ [])
+pub list-put : (rules heads : List ℕ) (c r h : ℕ) → c < length rules → c < length heads
+    → listOf (set rules c r) (set heads c h) (c + 1) ≡ listOf rules heads c ++ (record { rule = record { 0 = r }; head = h } ∷ [])
 unfolding listOf
 list-put rules heads c r h l m = rw (add-one c, frame rules heads c r h c (omega arith), getD-set-same rules c r 0 l, getD-set-same heads c h 0 m)
 
-at-last : (rules heads : List ℕ) (n i : ℕ) (d : HeadPlace) → ((i < n) ⊎ (i ≡ n)) → (i < n → getD (listOf rules heads n) i d ≡ placeAt rules heads i) → getD (listOf rules heads n ++ (placeAt rules heads n ∷ [])) i d ≡ placeAt rules heads i
-at-last rules heads n i d (inl l) more = List·getD-append (listOf rules heads n) (placeAt rules heads n ∷ []) d i (omega (arith, list-length rules heads n)) ∙ more l
+at-last : (rules heads : List ℕ) (n i : ℕ) (d : HeadPlace) → ((i < n) ⊎ (i ≡ n)) → (i < n → getD (listOf rules heads n) i d ≡ placeAt rules heads i)
+    → getD (listOf rules heads n ++ (placeAt rules heads n ∷ [])) i d ≡ placeAt rules heads i
+at-last rules heads n i d (inl l) more =
+    List·getD-append (listOf rules heads n) (placeAt rules heads n ∷ []) d i (omega (arith, list-length rules heads n)) ∙ more l
 at-last rules heads n i d (inr e) more = rw e (getD-at (listOf rules heads n) (placeAt rules heads n) [] d n (list-length rules heads n))
 
 pub list-at : (rules heads : List ℕ) (n i : ℕ) (d : HeadPlace) → i < n → getD (listOf rules heads n) i d ≡ placeAt rules heads i

@@ -76,7 +76,8 @@ in-rule n m k (h ∷ hs) =
     let p : HeadPlace = record { rule = record { 0 = n }; head = k } in
     omega (
       arith,
-      sum-both (λ s. length (placesIn (symbol s) n (suc k) hs ++ placeIf (sameSymbol (h .symbol) (symbol s)) p)) (λ s. length (placesIn (symbol s) n (suc k) hs)) (hot (h .symbol) p)
+      sum-both (λ s. length (placesIn (symbol s) n (suc k) hs ++ placeIf (sameSymbol (h .symbol) (symbol s)) p))
+          (λ s. length (placesIn (symbol s) n (suc k) hs)) (hot (h .symbol) p)
           (λ s. length-append (placesIn (symbol s) n (suc k) hs) (placeIf (sameSymbol (h .symbol) (symbol s)) p)) m,
       in-rule n m (suc k) hs,
       one-hot (h .symbol) p m,
@@ -88,7 +89,8 @@ in-rules n m [] u = omega (arith, sum-none (λ s. 0) (λ s. refl) m)
 in-rules n m (r ∷ rs) u =
     omega (
       arith,
-      sum-both (λ s. length (placesIn (symbol s) n 0 (heads r) ++ placesFrom (symbol s) (suc n) rs)) (λ s. length (placesIn (symbol s) n 0 (heads r))) (λ s. length (placesFrom (symbol s) (suc n) rs))
+      sum-both (λ s. length (placesIn (symbol s) n 0 (heads r) ++ placesFrom (symbol s) (suc n) rs))
+          (λ s. length (placesIn (symbol s) n 0 (heads r))) (λ s. length (placesFrom (symbol s) (suc n) rs))
           (λ s. length-append (placesIn (symbol s) n 0 (heads r)) (placesFrom (symbol s) (suc n) rs)) m,
       in-rule n m 0 (heads r),
       u .0,

@@ -3,44 +3,47 @@
 // place's rule and head. Only `place_of` reads them.
 ghost use mathlib.Core.Path.{_≡_};
 ghost use mathlib.Core.List.{_++_};
-ghost use Prim.Native.Nat.{_+_, _-_, _*_, _≤_};
+ghost use Prim.Native.Nat.{_+_, _-_};
 ghost use lib.ListN.{length, getElem?};
 ghost use Rattle.model.specs.Reading.{readOf};
-ghost use Rattle.model.specs.Table.{tableOf, headsStart, places};
+ghost use Rattle.model.specs.Table.{tableOf, places};
 ghost use Rattle.model.specs.declared.Verdict.the-variants.{Good};
-ghost use Rattle.occurrences.specs.Listing.{listOf, rulePlaces, foundPlace, Room, Holds, Listed};
+ghost use Rattle.occurrences.specs.Listing.{listOf, rulePlaces, foundPlace, Room, RuleAsked, SymbolAsked, Holds, Listed};
 use model::HeadPlace;
 use model::Occurrence;
 use model::Reading;
 use model::RuleNumber;
 use model::RuleShape;
 use model::Symbol;
+use model::Table;
+use records::geometry;
+use records::geometry::HeadBytes;
 
-pub enum Found {
+pub enum Spot {
     At(HeadPlace),
     Nothing,
 }
 
 // Lists the places of a symbol in one rule, from the last head to the first, behind `count` places. Gives the new count.
 fn list_rule(
-    t: &[u8],
+    table: &[u8],
     symbol: Symbol,
     rule: RuleNumber,
     shape: RuleShape,
     count: usize,
-    rules: &mut [u8; 256],
-    heads: &mut [u8; 256],
+    rules: &mut [u8; Table::PLACES],
+    heads: &mut [u8; Table::PLACES],
 ) -> usize
-    requires { ⌜ (headsStart shape + 22 * shape .heads ≤ length (now t)) × Room (now rules) (now heads) × (count + length (rulePlaces (now t) symbol (rule .0) shape) ≤ 256) ⌝ }
-    ensures { λ r. ⌜ Holds (listOf (now (rules .entry)) (now (heads .entry)) count ++ rulePlaces (now (t .entry)) symbol (rule .0) shape) (now (rules .exit)) (now (heads .exit)) r ⌝ }
+    requires { ⌜ RuleAsked (now table) symbol (rule .0) shape count (now rules) (now heads) ⌝ }
+    ensures { λ r. ⌜ Holds (listOf (now (rules .entry)) (now (heads .entry)) count ++ rulePlaces (now (table .entry)) symbol (rule .0) shape)
+        (now (rules .exit)) (now (heads .exit)) r ⌝ }
 {
-    let from = shape.start as usize + 1;
     let mut n = count;
     let mut k = shape.heads;
     while 0 < k {
         k -= 1;
-        let p = from + 22 * (k as usize) + 1;
-        if t[p] == symbol.0 {
+        let p = geometry::head_start(shape, k as usize) + HeadBytes::SYMBOL;
+        if table[p] == symbol.0 {
             rules[n] = rule.0;
             heads[n] = k;
             n += 1;
@@ -51,22 +54,23 @@ fn list_rule(
 
 // Lists the places of a symbol in all rules, from the first to the last.
 fn list_symbol(
-    t: &[u8],
+    table: &[u8],
     reading: Reading,
     symbol: Symbol,
     count: usize,
-    rules: &mut [u8; 256],
-    heads: &mut [u8; 256],
+    rules: &mut [u8; Table::PLACES],
+    heads: &mut [u8; Table::PLACES],
 ) -> usize
-    requires { ⌜ (reading ≡ readOf (now t)) × (reading .verdict ≡ Good) × Room (now rules) (now heads) × (count + length (places (tableOf (now t)) symbol) ≤ 256) ⌝ }
-    ensures { λ r. ⌜ Holds (listOf (now (rules .entry)) (now (heads .entry)) count ++ places (tableOf (now (t .entry))) symbol) (now (rules .exit)) (now (heads .exit)) r ⌝ }
+    requires { ⌜ SymbolAsked (now table) symbol reading count (now rules) (now heads) ⌝ }
+    ensures { λ r. ⌜ Holds (listOf (now (rules .entry)) (now (heads .entry)) count ++ places (tableOf (now (table .entry))) symbol)
+        (now (rules .exit)) (now (heads .exit)) r ⌝ }
 {
     let mut n = count;
     let mut rule: u8 = 0;
     while rule < reading.rules {
         let i = rule as usize;
         let shape = reading.shapes[i];
-        n = list_rule(t, symbol, RuleNumber(rule), shape, n, rules, heads);
+        n = list_rule(table, symbol, RuleNumber(rule), shape, n, rules, heads);
         rule += 1;
     }
     n
@@ -74,24 +78,24 @@ fn list_symbol(
 
 // "A run begins by listing each symbol's head places in this order."
 pub fn list_occurrences(
-    t: &[u8],
+    table: &[u8],
     reading: Reading,
-    first: &mut [u16; 33],
-    rules: &mut [u8; 256],
-    heads: &mut [u8; 256],
+    first: &mut [u16; Table::SYMBOLS + 1],
+    rules: &mut [u8; Table::PLACES],
+    heads: &mut [u8; Table::PLACES],
 )
-    requires { ⌜ (reading ≡ readOf (now t)) × (reading .verdict ≡ Good) × (length (now first) ≡ 33) × Room (now rules) (now heads) ⌝ }
-    ensures { λ _. ⌜ Listed (now (t .entry)) (now (first .exit)) (now (rules .exit)) (now (heads .exit)) ⌝ }
+    requires { ⌜ (reading ≡ readOf (now table)) × (reading .verdict ≡ Good) × (length (now first) ≡ 33) × Room (now rules) (now heads) ⌝ }
+    ensures { λ _. ⌜ Listed (now (table .entry)) (now (first .exit)) (now (rules .exit)) (now (heads .exit)) ⌝ }
 {
     let mut count: usize = 0;
     let mut s: u8 = 0;
     while s < reading.symbols {
         let i = s as usize;
         first[i] = count as u16;
-        count = list_symbol(t, reading, Symbol(s), count, rules, heads);
+        count = list_symbol(table, reading, Symbol(s), count, rules, heads);
         s += 1;
     }
-    while s < 33 {
+    while (s as usize) <= Table::SYMBOLS {
         let i = s as usize;
         first[i] = count as u16;
         s += 1;
@@ -111,30 +115,30 @@ fn index_of(j: Occurrence) -> usize
 
 // The place of occurrence j of a symbol, where it has one.
 pub fn place_of(
-    t: &[u8],
-    first: &[u16; 33],
-    rules: &[u8; 256],
-    heads: &[u8; 256],
+    table: &[u8],
+    first: &[u16; Table::SYMBOLS + 1],
+    rules: &[u8; Table::PLACES],
+    heads: &[u8; Table::PLACES],
     symbol: Symbol,
     j: Occurrence,
-) -> Found
-    requires { ⌜ Listed (now t) (now first) (now rules) (now heads) ⌝ }
-    ensures { λ r. ⌜ foundPlace r ≡ getElem? (places (tableOf (now (t .entry))) symbol) (j .0 - 1) ⌝ }
+) -> Spot
+    requires { ⌜ Listed (now table) (now first) (now rules) (now heads) ⌝ }
+    ensures { λ r. ⌜ foundPlace r ≡ getElem? (places (tableOf (now (table .entry))) symbol) (j .0 - 1) ⌝ }
 {
     let s = symbol.0 as usize;
-    if 32 <= s {
-        return Found::Nothing;
+    if Table::SYMBOLS <= s {
+        return Spot::Nothing;
     }
     let start = first[s] as usize;
     let end = first[s + 1] as usize;
     let k = index_of(j);
     if end - start <= k {
-        return Found::Nothing;
+        return Spot::Nothing;
     }
     let at = start + k;
     let place = HeadPlace {
         rule: RuleNumber(rules[at]),
         head: heads[at],
     };
-    Found::At(place)
+    Spot::At(place)
 }

@@ -1,8 +1,9 @@
-// What the programs print on the standard output: numbers, bytes in hexadecimal, a result's six numbers, and the facts of an answer.
+// What the programs print on the standard output: numbers, bytes in hexadecimal, a result's numbers, and the facts of an answer.
 // What a call of C's writes no contract can say, so these have none: each is proved safe and ending.
 use libc::STDOUT_FILENO;
 use model::Answer;
 use model::CallResult;
+use model::Symbol;
 use records::fields;
 
 pub fn put(text: &[u8]) {
@@ -63,7 +64,7 @@ fn put_fact(table: &[u8], fact: &[u8]) {
     let symbol = wire::byte(fact, 5);
     put_unsigned(wire::read_u32(fact, 1) as u64);
     put_next(symbol as u32);
-    put_arguments(fact, fields::arity_at(table, symbol));
+    put_arguments(fact, fields::arity_at(table, Symbol(symbol)));
     put(b"\n");
 }
 

@@ -1,3 +1,4 @@
 pub mod Tests
 pub mod Constants
 pub mod Marks
+pub mod PartsLie

@@ -9,6 +9,7 @@ use native.Mathlib.Nat.{mod-eq-of-lt}
 use lib.ListN.{length, getD, set, replicate, length-set, getD-replicate}
 use lib.Seq.{getD-set-same, getD-set-other}
 use lib.Dec.{ltb, eqb}
+use lib.IntN.{ℤ}
 use borrow.Author.Tests.{ltb-true, lt-ltb, le-ltb, eqb-true, eqb-false}
 use Rattle.wire.specs.Wire.{u32At, signedOf}
 use Rattle.model.specs.Slots.{slotBy, slotAt}
@@ -20,7 +21,9 @@ use Rattle.records.specs.Named.{Named, Follows, headless, head, same, ma
 
 -- ---- what holds of a slot, by the tests of its tag and its value
 
-by-tests : (P : Slot → Type 0) (value : ℕ) (tag0 tag1 tag2 none low : Bool) → P Unused → P (Constant (signedOf value)) → P Bad → (tag2 ≡ true → low ≡ true → P (Variable value)) → P (cond tag0 (cond none Unused Bad) (cond tag1 (Constant (signedOf value)) (cond tag2 (cond low (Variable value) Bad) Bad)))
+by-tests : (P : Slot → Type 0) (value : ℕ) (tag0 tag1 tag2 none low : Bool) → P Unused → P (Constant (signedOf value)) → P Bad
+    → (tag2 ≡ true → low ≡ true → P (Variable value))
+    → P (cond tag0 (cond none Unused Bad) (cond tag1 (Constant (signedOf value)) (cond tag2 (cond low (Variable value) Bad) Bad)))
 by-tests P value true tag1 tag2 true low u c b v = u
 by-tests P value true tag1 tag2 false low u c b v = b
 by-tests P value false true tag2 none low u c b v = c
@@ -28,7 +31,8 @@ by-tests P value false false true none true u c b v = v refl refl
 by-tests P value false false true none false u c b v = b
 by-tests P value false false false none low u c b v = b
 
-by-slot : (P : Slot → Type 0) (tag value : ℕ) → P Unused → P (Constant (signedOf value)) → P Bad → (eqb tag 2 ≡ true → ltb value 16 ≡ true → P (Variable value)) → P (slotBy tag value)
+by-slot : (P : Slot → Type 0) (tag value : ℕ) → P Unused → P (Constant (signedOf value)) → P Bad
+    → (eqb tag 2 ≡ true → ltb value 16 ≡ true → P (Variable value)) → P (slotBy tag value)
 unfolding slotBy
 by-slot P tag value = by-tests P value (eqb tag 0) (eqb tag 1) (eqb tag 2) (eqb value 0) (ltb value 16)
 
@@ -85,6 +89,31 @@ module _ (t : List ℕ) (p : ℕ) (l : List Bool) where
       ∙ ap (λ (x : Bool). isVariable d v || (isVariable c v || (isVariable b v || x))) (marked-has a l v h)
       ∙ in-order (isVariable a v) (isVariable b v) (isVariable c v) (isVariable d v) (getD l v false)
 
+-- ---- the marks, as the code writes them
+
+module _ (t : List ℕ) (p : ℕ) where
+  module _ {s : Slot} (e : s ≡ slotAt t p) (l : List Bool) where
+    pub unused-marked : s ≡ Unused → l ≡ marked (slotAt t p) l
+    unfolding marked
+    unused-marked d = rw (← e, d)
+
+    pub constant-marked : {z : ℤ} → s ≡ Constant z → l ≡ marked (slotAt t p) l
+    unfolding marked
+    constant-marked d = rw (← e, d)
+
+    pub variable-marked : {v : ℕ} → s ≡ Variable v → set l v true ≡ marked (slotAt t p) l
+    unfolding marked
+    variable-marked d = rw (← e, d)
+
+    pub bad-marked : s ≡ Bad → l ≡ marked (slotAt t p) l
+    unfolding marked
+    bad-marked d = rw (← e, d)
+
+  pub head-marked : (l : List Bool) {a b c d : List Bool} → a ≡ marked (slotAt t (p + 2)) l → b ≡ marked (slotAt t (p + 7)) a → c ≡ marked (slotAt t (p + 12)) b
+      → d ≡ marked (slotAt t (p + 17)) c → d ≡ markedHead t p l
+  unfolding markedHead
+  head-marked l e f g h = rw (← e, ← f, ← g) h
+
 -- ---- a head more
 
 one-more : (t : List ℕ) (p n v : ℕ) → inHeads t p (suc n) v ≡ (inHeads t p n v || headHas t (p + 22 * n) v)
@@ -92,14 +121,17 @@ unfolding inHeads
 one-more t p zero v = let e : p + 22 * 0 ≡ p = omega arith in rw e (or-false (headHas t p v))
 one-more t p (suc n) v =
     let e : p + 22 * suc n ≡ p + 22 + 22 * n = omega arith in
-    rw e (ap (λ (x : Bool). headHas t p v || x) (one-more t (p + 22) n v) ∙ sym (or-assoc (headHas t p v) (inHeads t (p + 22) n v) (headHas t (p + 22 + 22 * n) v)))
+    rw e
+    (ap (λ (x : Bool). headHas t p v || x) (one-more t (p + 22) n v)
+    ∙ sym (or-assoc (headHas t p v) (inHeads t (p + 22) n v) (headHas t (p + 22 + 22 * n) v)))
 
 pub none-named : (t : List ℕ) (rule : RuleShape) → rule .heads ≡ 0 → Named t rule (replicate 16 false)
 unfolding inHeads
 none-named t rule e = record { sized = refl; marks = λ v h. rw e (getD-replicate 16 v false false h) }
 
 module _ {t : List ℕ} {at : ℕ} {before after : RuleShape} {named : List Bool} (w : Named t before named) where
-  has-more : after .heads ≡ before .heads + 1 → after .start ≡ before .start → at ≡ before .start + 1 + 22 * before .heads → Named t after (markedHead t at named)
+  has-more : after .heads ≡ before .heads + 1 → after .start ≡ before .start → at ≡ before .start + 1 + 22 * before .heads
+      → Named t after (markedHead t at named)
   has-more e d f =
       let more : after .heads ≡ suc (before .heads) = omega arith in
       record {

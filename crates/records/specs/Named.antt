@@ -18,7 +18,8 @@ pub record Named (t : List ℕ) (rule : RuleShape) (named : List Bool) : Type 0 
 -- what a good record at `at` makes of the rule that is being read: it has no head, or a head more, which is this record, or the same heads
 pub data Follows (t : List ℕ) (at : ℕ) (before after : RuleShape) : Type 0 where
   headless : after .heads ≡ 0 → Follows t at before after
-  head : after .heads ≡ before .heads + 1 → after .start ≡ before .start → at ≡ before .start + 1 + 22 * before .heads → at + 22 ≤ length t → Follows t at before after
+  head : after .heads ≡ before .heads + 1 → after .start ≡ before .start → at ≡ before .start + 1 + 22 * before .heads → at + 22 ≤ length t
+      → Follows t at before after
   same : after .heads ≡ before .heads → after .start ≡ before .start → Follows t at before after
 
 -- the marks with the variable of a slot, and with those of the head at p

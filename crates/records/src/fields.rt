@@ -2,13 +2,21 @@
 ghost use mathlib.Core.Path.{_≡_};
 ghost use Prim.Native.Nat.{_+_, _≤_};
 ghost use lib.ListN.{length};
+ghost use Rattle.model.specs.declared.Kind.the-variants.{KeptHead, Comparison, BodyFact};
 ghost use Rattle.model.specs.Records.{sizeOf};
 ghost use Rattle.model.specs.Slots.{slotAt};
 ghost use Rattle.model.specs.Fields.{placeBad, arityAt, placesBad, topOf, expressionBad, argumentsBad, headBad, guardBad, bodyFactBad, badField};
+use crate::geometry::ExpressionBytes;
+use crate::geometry::FactBytes;
+use crate::geometry::GuardBytes;
+use crate::geometry::HeadBytes;
+use crate::geometry::SlotBytes;
+use crate::geometry::SymbolBytes;
 use crate::slots;
 use model::Kind;
 use model::Scan;
 use model::Slot;
+use model::Symbol;
 
 // A used place holds a constant or a variable; any other is zero in every byte.
 fn place_bad(used: bool, slot: Slot) -> bool
@@ -23,35 +31,38 @@ fn place_bad(used: bool, slot: Slot) -> bool
 }
 
 // The slot at p, as a place that is used or not.
-fn slot_bad(t: &[u8], p: usize, used: bool) -> bool
-    requires { ⌜ p + 5 ≤ length (now t) ⌝ }
-    ensures { λ r. ⌜ r ≡ placeBad used (slotAt (now (t .entry)) p) ⌝ }
+fn slot_bad(table: &[u8], p: usize, used: bool) -> bool
+    requires { ⌜ p + 5 ≤ length (now table) ⌝ }
+    ensures { λ r. ⌜ r ≡ placeBad used (slotAt (now (table .entry)) p) ⌝ }
 {
-    place_bad(used, slots::slot_at(t, p))
+    place_bad(used, slots::slot_at(table, p))
 }
 
 // Symbols stand first, two bytes each.
-pub fn arity_at(t: &[u8], symbol: u8) -> u8
-    ensures { λ r. ⌜ r ≡ arityAt (now (t .entry)) symbol ⌝ }
+pub fn arity_at(table: &[u8], symbol: Symbol) -> u8
+    ensures { λ r. ⌜ r ≡ arityAt (now (table .entry)) (symbol .0) ⌝ }
 {
-    wire::byte(t, 2 * (symbol as usize) + 1)
+    wire::byte(
+        table,
+        SymbolBytes::LEN * (symbol.0 as usize) + SymbolBytes::ARITY,
+    )
 }
 
 // Four slots from p, of which the first `arity` are used.
-fn places_bad(t: &[u8], p: usize, arity: u8) -> bool
-    requires { ⌜ p + 20 ≤ length (now t) ⌝ }
-    ensures { λ r. ⌜ r ≡ placesBad (now (t .entry)) p arity ⌝ }
+fn places_bad(table: &[u8], p: usize, arity: u8) -> bool
+    requires { ⌜ p + 20 ≤ length (now table) ⌝ }
+    ensures { λ r. ⌜ r ≡ placesBad (now (table .entry)) p arity ⌝ }
 {
-    if slot_bad(t, p, 0 < arity) {
+    if slot_bad(table, p, 0 < arity) {
         return true;
     }
-    if slot_bad(t, p + 5, 1 < arity) {
+    if slot_bad(table, p + SlotBytes::SECOND, 1 < arity) {
         return true;
     }
-    if slot_bad(t, p + 10, 2 < arity) {
+    if slot_bad(table, p + SlotBytes::THIRD, 2 < arity) {
         return true;
     }
-    slot_bad(t, p + 15, 3 < arity)
+    slot_bad(table, p + SlotBytes::FOURTH, 3 < arity)
 }
 
 // The greatest operation of a place.
@@ -62,84 +73,92 @@ fn top(used: bool) -> u8
 }
 
 // The expression at p: an operation without a second slot leaves it unused.
-fn expression_bad(t: &[u8], p: usize, used: bool) -> bool
-    requires { ⌜ p + 11 ≤ length (now t) ⌝ }
-    ensures { λ r. ⌜ r ≡ expressionBad (now (t .entry)) p used ⌝ }
+fn expression_bad(table: &[u8], p: usize, used: bool) -> bool
+    requires { ⌜ p + 11 ≤ length (now table) ⌝ }
+    ensures { λ r. ⌜ r ≡ expressionBad (now (table .entry)) p used ⌝ }
 {
-    let operation = t[p];
+    let operation = table[p];
     if top(used) < operation {
         return true;
     }
-    if slot_bad(t, p + 1, used) {
+    if slot_bad(table, p + ExpressionBytes::LEFT, used) {
         return true;
     }
-    slot_bad(t, p + 6, 0 < operation)
+    slot_bad(table, p + ExpressionBytes::RIGHT, 0 < operation)
 }
 
 // Four expressions from p, of which the first `arity` are used.
-fn arguments_bad(t: &[u8], p: usize, arity: u8) -> bool
-    requires { ⌜ p + 44 ≤ length (now t) ⌝ }
-    ensures { λ r. ⌜ r ≡ argumentsBad (now (t .entry)) p arity ⌝ }
+fn arguments_bad(table: &[u8], p: usize, arity: u8) -> bool
+    requires { ⌜ p + 44 ≤ length (now table) ⌝ }
+    ensures { λ r. ⌜ r ≡ argumentsBad (now (table .entry)) p arity ⌝ }
 {
-    if expression_bad(t, p, 0 < arity) {
+    if expression_bad(table, p, 0 < arity) {
         return true;
     }
-    if expression_bad(t, p + 11, 1 < arity) {
+    if expression_bad(table, p + ExpressionBytes::SECOND, 1 < arity) {
         return true;
     }
-    if expression_bad(t, p + 22, 2 < arity) {
+    if expression_bad(table, p + ExpressionBytes::THIRD, 2 < arity) {
         return true;
     }
-    expression_bad(t, p + 33, 3 < arity)
+    expression_bad(table, p + ExpressionBytes::FOURTH, 3 < arity)
 }
 
-fn head_bad(t: &[u8], at: usize, symbols: u8) -> bool
-    requires { ⌜ at + 22 ≤ length (now t) ⌝ }
-    ensures { λ r. ⌜ r ≡ headBad (now (t .entry)) at symbols ⌝ }
+fn head_bad(table: &[u8], at: usize, symbols: u8) -> bool
+    requires { ⌜ at + sizeOf KeptHead ≤ length (now table) ⌝ }
+    ensures { λ r. ⌜ r ≡ headBad (now (table .entry)) at symbols ⌝ }
 {
-    let symbol = t[at + 1];
+    let symbol = table[at + HeadBytes::SYMBOL];
     if symbols <= symbol {
         return true;
     }
-    places_bad(t, at + 2, arity_at(t, symbol))
+    places_bad(
+        table,
+        at + HeadBytes::SLOT_0,
+        arity_at(table, Symbol(symbol)),
+    )
 }
 
-fn guard_bad(t: &[u8], at: usize) -> bool
-    requires { ⌜ at + 24 ≤ length (now t) ⌝ }
-    ensures { λ r. ⌜ r ≡ guardBad (now (t .entry)) at ⌝ }
+fn guard_bad(table: &[u8], at: usize) -> bool
+    requires { ⌜ at + sizeOf Comparison ≤ length (now table) ⌝ }
+    ensures { λ r. ⌜ r ≡ guardBad (now (table .entry)) at ⌝ }
 {
-    if 5 < t[at + 1] {
+    if 5 < table[at + GuardBytes::COMPARATOR] {
         return true;
     }
-    if expression_bad(t, at + 2, true) {
+    if expression_bad(table, at + GuardBytes::LEFT, true) {
         return true;
     }
-    expression_bad(t, at + 13, true)
+    expression_bad(table, at + GuardBytes::RIGHT, true)
 }
 
-fn body_fact_bad(t: &[u8], at: usize, symbols: u8) -> bool
-    requires { ⌜ at + 46 ≤ length (now t) ⌝ }
-    ensures { λ r. ⌜ r ≡ bodyFactBad (now (t .entry)) at symbols ⌝ }
+fn body_fact_bad(table: &[u8], at: usize, symbols: u8) -> bool
+    requires { ⌜ at + sizeOf BodyFact ≤ length (now table) ⌝ }
+    ensures { λ r. ⌜ r ≡ bodyFactBad (now (table .entry)) at symbols ⌝ }
 {
-    let symbol = t[at + 1];
+    let symbol = table[at + FactBytes::SYMBOL];
     if symbols <= symbol {
         return true;
     }
-    arguments_bad(t, at + 2, arity_at(t, symbol))
+    arguments_bad(
+        table,
+        at + FactBytes::ARGUMENT_0,
+        arity_at(table, Symbol(symbol)),
+    )
 }
 
-pub fn bad_field(t: &[u8], s: Scan, k: Kind) -> bool
-    requires { ⌜ s .at + sizeOf k ≤ length (now t) ⌝ }
-    ensures { λ r. ⌜ r ≡ badField (now (t .entry)) s k ⌝ }
+pub fn bad_field(table: &[u8], s: Scan, k: Kind) -> bool
+    requires { ⌜ s .at + sizeOf k ≤ length (now table) ⌝ }
+    ensures { λ r. ⌜ r ≡ badField (now (table .entry)) s k ⌝ }
 {
     let at = s.at;
     match k {
-        Kind::NextSymbol => 4 < t[at + 1],
+        Kind::NextSymbol => 4 < table[at + SymbolBytes::ARITY],
         Kind::NextRule => false,
-        Kind::KeptHead => head_bad(t, at, s.symbols),
-        Kind::RemovedHead => head_bad(t, at, s.symbols),
-        Kind::Comparison => guard_bad(t, at),
-        Kind::BodyFact => body_fact_bad(t, at, s.symbols),
+        Kind::KeptHead => head_bad(table, at, s.symbols),
+        Kind::RemovedHead => head_bad(table, at, s.symbols),
+        Kind::Comparison => guard_bad(table, at),
+        Kind::BodyFact => body_fact_bad(table, at, s.symbols),
         Kind::BodyFail => false,
         Kind::EndOfTable => false,
         Kind::Unknown => false,

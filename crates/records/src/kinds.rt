@@ -1,8 +1,14 @@
 // The kinds of a table's records: their lengths, order and limits.
 ghost use mathlib.Core.Path.{_≡_};
 ghost use Rattle.model.specs.Records.{kindOf, sizeOf, earliestOf, latestOf, outOfOrder, headless, tooMany};
+use crate::geometry::FactBytes;
+use crate::geometry::GuardBytes;
+use crate::geometry::HeadBytes;
+use crate::geometry::SymbolBytes;
 use model::Kind;
+use model::Rule;
 use model::Scan;
+use model::Table;
 
 pub fn kind_of(b: u8) -> Kind
     ensures { λ r. ⌜ r ≡ kindOf b ⌝ }
@@ -25,12 +31,12 @@ pub fn size_of(k: Kind) -> usize
     ensures { λ r. ⌜ r ≡ sizeOf k ⌝ }
 {
     match k {
-        Kind::NextSymbol => 2,
+        Kind::NextSymbol => SymbolBytes::LEN,
         Kind::NextRule => 1,
-        Kind::KeptHead => 22,
-        Kind::RemovedHead => 22,
-        Kind::Comparison => 24,
-        Kind::BodyFact => 46,
+        Kind::KeptHead => HeadBytes::LEN,
+        Kind::RemovedHead => HeadBytes::LEN,
+        Kind::Comparison => GuardBytes::LEN,
+        Kind::BodyFact => FactBytes::LEN,
         Kind::BodyFail => 1,
         Kind::EndOfTable => 1,
         Kind::Unknown => 0,
@@ -103,13 +109,13 @@ pub fn too_many(k: Kind, s: Scan) -> bool
     ensures { λ r. ⌜ r ≡ tooMany k s ⌝ }
 {
     match k {
-        Kind::NextSymbol => 32 <= s.symbols,
-        Kind::NextRule => 64 <= s.rules,
-        Kind::KeptHead => 4 <= s.shape.heads,
-        Kind::RemovedHead => 4 <= s.shape.heads,
-        Kind::Comparison => 4 <= s.shape.guards,
-        Kind::BodyFact => 4 <= s.shape.items,
-        Kind::BodyFail => 4 <= s.shape.items,
+        Kind::NextSymbol => Table::SYMBOLS <= s.symbols as usize,
+        Kind::NextRule => Table::RULES <= s.rules as usize,
+        Kind::KeptHead => Rule::HEADS <= s.shape.heads as usize,
+        Kind::RemovedHead => Rule::HEADS <= s.shape.heads as usize,
+        Kind::Comparison => Rule::GUARDS <= s.shape.guards as usize,
+        Kind::BodyFact => Rule::ITEMS <= s.shape.items as usize,
+        Kind::BodyFail => Rule::ITEMS <= s.shape.items as usize,
         Kind::EndOfTable => false,
         Kind::Unknown => false,
     }

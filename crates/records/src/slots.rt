@@ -3,7 +3,10 @@ ghost use mathlib.Core.Path.{_≡_};
 ghost use Prim.Native.Nat.{_+_, _≤_};
 ghost use lib.ListN.{length};
 ghost use Rattle.model.specs.Slots.{slotBy, slotAt, expressionAt};
+use crate::geometry::ExpressionBytes;
+use crate::geometry::SlotBytes;
 use model::Expression;
+use model::Rule;
 use model::Slot;
 
 // A slot of its tag and its value.
@@ -20,7 +23,7 @@ fn slot_by(tag: u8, value: u32) -> Slot
         return Slot::Constant(wire::signed(value));
     }
     if tag == 2 {
-        if value < 16 {
+        if (value as usize) < Rule::VARIABLES {
             return Slot::Variable(value as u8);
         }
         return Slot::Bad;
@@ -29,23 +32,23 @@ fn slot_by(tag: u8, value: u32) -> Slot
 }
 
 // The slot whose five bytes start at p.
-pub fn slot_at(t: &[u8], p: usize) -> Slot
-    requires { ⌜ p + 5 ≤ length (now t) ⌝ }
-    ensures { λ r. ⌜ r ≡ slotAt (now (t .entry)) p ⌝ }
+pub fn slot_at(table: &[u8], p: usize) -> Slot
+    requires { ⌜ p + 5 ≤ length (now table) ⌝ }
+    ensures { λ r. ⌜ r ≡ slotAt (now (table .entry)) p ⌝ }
 {
-    let value = wire::u32_within(t, p + 1);
-    slot_by(t[p], value)
+    let value = wire::u32_within(table, p + SlotBytes::VALUE);
+    slot_by(table[p], value)
 }
 
 // The expression whose eleven bytes start at p.
-pub fn expression_at(t: &[u8], p: usize) -> Expression
-    requires { ⌜ p + 11 ≤ length (now t) ⌝ }
-    ensures { λ r. ⌜ r ≡ expressionAt (now (t .entry)) p ⌝ }
+pub fn expression_at(table: &[u8], p: usize) -> Expression
+    requires { ⌜ p + 11 ≤ length (now table) ⌝ }
+    ensures { λ r. ⌜ r ≡ expressionAt (now (table .entry)) p ⌝ }
 {
-    let left = slot_at(t, p + 1);
-    let right = slot_at(t, p + 6);
+    let left = slot_at(table, p + ExpressionBytes::LEFT);
+    let right = slot_at(table, p + ExpressionBytes::RIGHT);
     Expression {
-        operation: t[p],
+        operation: table[p],
         left: left,
         right: right,
     }

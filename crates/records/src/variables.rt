@@ -4,12 +4,19 @@ ghost use mathlib.Core.Path.{_≡_};
 ghost use Prim.Native.Nat.{_+_, _≤_};
 ghost use lib.ListN.{length, replicate};
 ghost use mathlib.Core.Bool.{false};
+ghost use Rattle.model.specs.declared.Kind.the-variants.{KeptHead, Comparison, BodyFact};
 ghost use Rattle.model.specs.Records.{sizeOf};
 ghost use Rattle.model.specs.Slots.{slotAt};
 ghost use Rattle.model.specs.Variables.{strangeSlot, strangeExpression, strangeGuard, strangeFact, strange};
 ghost use Rattle.records.specs.Named.{Named, Follows, marked, markedHead};
+use crate::geometry::ExpressionBytes;
+use crate::geometry::FactBytes;
+use crate::geometry::GuardBytes;
+use crate::geometry::HeadBytes;
+use crate::geometry::SlotBytes;
 use crate::slots;
 use model::Kind;
+use model::Rule;
 use model::RuleShape;
 use model::Scan;
 use model::Slot;
@@ -17,18 +24,18 @@ use model::Slot;
 // ---- the marks
 
 // No variable is marked.
-pub fn no_marks() -> [bool; 16]
+pub fn no_marks() -> [bool; Rule::VARIABLES]
     ensures { λ r. ⌜ r ≡ replicate 16 false ⌝ }
 {
-    [false; 16]
+    [false; Rule::VARIABLES]
 }
 
 // Marks the variable of the slot at p, where it is one.
-fn mark_slot(t: &[u8], p: usize, named: &mut [bool; 16])
-    requires { ⌜ p + 5 ≤ length (now t) ⌝ }
-    ensures { λ _. ⌜ now (named .exit) ≡ marked (slotAt (now (t .entry)) p) (now (named .entry)) ⌝ }
+fn mark_slot(table: &[u8], p: usize, named: &mut [bool; Rule::VARIABLES])
+    requires { ⌜ p + 5 ≤ length (now table) ⌝ }
+    ensures { λ _. ⌜ now (named .exit) ≡ marked (slotAt (now (table .entry)) p) (now (named .entry)) ⌝ }
 {
-    let slot = slots::slot_at(t, p);
+    let slot = slots::slot_at(table, p);
     match slot {
         Slot::Unused => {}
         Slot::Constant(_) => {}
@@ -40,23 +47,29 @@ fn mark_slot(t: &[u8], p: usize, named: &mut [bool; 16])
 }
 
 // Marks the variables of the head at p.
-fn mark_head(t: &[u8], p: usize, named: &mut [bool; 16])
-    requires { ⌜ p + 22 ≤ length (now t) ⌝ }
-    ensures { λ _. ⌜ now (named .exit) ≡ markedHead (now (t .entry)) p (now (named .entry)) ⌝ }
+fn mark_head(table: &[u8], p: usize, named: &mut [bool; Rule::VARIABLES])
+    requires { ⌜ p + sizeOf KeptHead ≤ length (now table) ⌝ }
+    ensures { λ _. ⌜ now (named .exit) ≡ markedHead (now (table .entry)) p (now (named .entry)) ⌝ }
 {
-    mark_slot(t, p + 2, named);
-    mark_slot(t, p + 7, named);
-    mark_slot(t, p + 12, named);
-    mark_slot(t, p + 17, named);
+    mark_slot(table, p + HeadBytes::SLOT_0, named);
+    mark_slot(table, p + HeadBytes::SLOT_1, named);
+    mark_slot(table, p + HeadBytes::SLOT_2, named);
+    mark_slot(table, p + HeadBytes::SLOT_3, named);
 }
 
 // The marks behind a good record at `at`: a head more adds its variables, and a rule with fewer heads is a new one.
-pub fn mark(t: &[u8], at: usize, before: RuleShape, after: RuleShape, named: &mut [bool; 16])
-    requires { ⌜ Named (now t) before (now named) × Follows (now t) at before after ⌝ }
-    ensures { λ _. ⌜ Named (now (t .entry)) after (now (named .exit)) ⌝ }
+pub fn mark(
+    table: &[u8],
+    at: usize,
+    before: RuleShape,
+    after: RuleShape,
+    named: &mut [bool; Rule::VARIABLES],
+)
+    requires { ⌜ Named (now table) before (now named) × Follows (now table) at before after ⌝ }
+    ensures { λ _. ⌜ Named (now (table .entry)) after (now (named .exit)) ⌝ }
 {
     if before.heads < after.heads {
-        mark_head(t, at, named);
+        mark_head(table, at, named);
         return;
     }
     if after.heads < before.heads {
@@ -68,60 +81,65 @@ pub fn mark(t: &[u8], at: usize, before: RuleShape, after: RuleShape, named: &mu
 
 // Whether the slot at p is a variable that no head has. The mark is read before it is known whether the slot is a variable, so that
 // no jump depends on it: such a jump is often guessed wrong.
-fn strange_at(t: &[u8], rule: RuleShape, named: &[bool; 16], p: usize) -> bool
-    requires { ⌜ Named (now t) rule (now named) × (p + 5 ≤ length (now t)) ⌝ }
-    ensures { λ r. ⌜ r ≡ strangeSlot (now (t .entry)) (rule .start) (rule .heads) (slotAt (now (t .entry)) p) ⌝ }
+fn strange_at(table: &[u8], rule: RuleShape, named: &[bool; Rule::VARIABLES], p: usize) -> bool
+    requires { ⌜ Named (now table) rule (now named) × (p + 5 ≤ length (now table)) ⌝ }
+    ensures { λ r. ⌜ r ≡ strangeSlot (now (table .entry)) (rule .start) (rule .heads) (slotAt (now (table .entry)) p) ⌝ }
 {
-    let value = wire::u32_within(t, p + 1);
-    let at = (value % 16) as usize;
+    let value = wire::u32_within(table, p + SlotBytes::VALUE) as usize;
+    let at = value % Rule::VARIABLES;
     if named[at] {
         return false;
     }
-    if 16 <= value {
+    if Rule::VARIABLES <= value {
         return false;
     }
-    t[p] == 2
+    table[p] == 2
 }
 
-fn strange_expression(t: &[u8], rule: RuleShape, named: &[bool; 16], p: usize) -> bool
-    requires { ⌜ Named (now t) rule (now named) × (p + 11 ≤ length (now t)) ⌝ }
-    ensures { λ r. ⌜ r ≡ strangeExpression (now (t .entry)) (rule .start) (rule .heads) p ⌝ }
+fn strange_expression(
+    table: &[u8],
+    rule: RuleShape,
+    named: &[bool; Rule::VARIABLES],
+    p: usize,
+) -> bool
+    requires { ⌜ Named (now table) rule (now named) × (p + 11 ≤ length (now table)) ⌝ }
+    ensures { λ r. ⌜ r ≡ strangeExpression (now (table .entry)) (rule .start) (rule .heads) p ⌝ }
 {
-    if strange_at(t, rule, named, p + 1) {
+    if strange_at(table, rule, named, p + ExpressionBytes::LEFT) {
         return true;
     }
-    strange_at(t, rule, named, p + 6)
+    strange_at(table, rule, named, p + ExpressionBytes::RIGHT)
 }
 
-fn strange_guard(t: &[u8], rule: RuleShape, named: &[bool; 16], at: usize) -> bool
-    requires { ⌜ Named (now t) rule (now named) × (at + 24 ≤ length (now t)) ⌝ }
-    ensures { λ r. ⌜ r ≡ strangeGuard (now (t .entry)) (rule .start) (rule .heads) at ⌝ }
+fn strange_guard(table: &[u8], rule: RuleShape, named: &[bool; Rule::VARIABLES], at: usize) -> bool
+    requires { ⌜ Named (now table) rule (now named) × (at + sizeOf Comparison ≤ length (now table)) ⌝ }
+    ensures { λ r. ⌜ r ≡ strangeGuard (now (table .entry)) (rule .start) (rule .heads) at ⌝ }
 {
-    if strange_expression(t, rule, named, at + 2) {
+    if strange_expression(table, rule, named, at + GuardBytes::LEFT) {
         return true;
     }
-    strange_expression(t, rule, named, at + 13)
+    strange_expression(table, rule, named, at + GuardBytes::RIGHT)
 }
 
-fn strange_fact(t: &[u8], rule: RuleShape, named: &[bool; 16], at: usize) -> bool
-    requires { ⌜ Named (now t) rule (now named) × (at + 46 ≤ length (now t)) ⌝ }
-    ensures { λ r. ⌜ r ≡ strangeFact (now (t .entry)) (rule .start) (rule .heads) at ⌝ }
+fn strange_fact(table: &[u8], rule: RuleShape, named: &[bool; Rule::VARIABLES], at: usize) -> bool
+    requires { ⌜ Named (now table) rule (now named) × (at + sizeOf BodyFact ≤ length (now table)) ⌝ }
+    ensures { λ r. ⌜ r ≡ strangeFact (now (table .entry)) (rule .start) (rule .heads) at ⌝ }
 {
-    if strange_expression(t, rule, named, at + 2) {
+    if strange_expression(table, rule, named, at + FactBytes::ARGUMENT_0) {
         return true;
     }
-    if strange_expression(t, rule, named, at + 13) {
+    if strange_expression(table, rule, named, at + FactBytes::ARGUMENT_1) {
         return true;
     }
-    if strange_expression(t, rule, named, at + 24) {
+    if strange_expression(table, rule, named, at + FactBytes::ARGUMENT_2) {
         return true;
     }
-    strange_expression(t, rule, named, at + 35)
+    strange_expression(table, rule, named, at + FactBytes::ARGUMENT_3)
 }
 
-pub fn strange(t: &[u8], s: Scan, k: Kind, named: &[bool; 16]) -> bool
-    requires { ⌜ Named (now t) (s .shape) (now named) × (s .at + sizeOf k ≤ length (now t)) ⌝ }
-    ensures { λ r. ⌜ r ≡ strange (now (t .entry)) s k ⌝ }
+pub fn strange(table: &[u8], s: Scan, k: Kind, named: &[bool; Rule::VARIABLES]) -> bool
+    requires { ⌜ Named (now table) (s .shape) (now named) × (s .at + sizeOf k ≤ length (now table)) ⌝ }
+    ensures { λ r. ⌜ r ≡ strange (now (table .entry)) s k ⌝ }
 {
     let rule = s.shape;
     match k {
@@ -129,8 +147,8 @@ pub fn strange(t: &[u8], s: Scan, k: Kind, named: &[bool; 16]) -> bool
         Kind::NextRule => false,
         Kind::KeptHead => false,
         Kind::RemovedHead => false,
-        Kind::Comparison => strange_guard(t, rule, named, s.at),
-        Kind::BodyFact => strange_fact(t, rule, named, s.at),
+        Kind::Comparison => strange_guard(table, rule, named, s.at),
+        Kind::BodyFact => strange_fact(table, rule, named, s.at),
         Kind::BodyFail => false,
         Kind::EndOfTable => false,
         Kind::Unknown => false,

@@ -1,16 +1,18 @@
-// The program *run*: reads a table followed by goal records from the standard input, and runs them. It prints the six numbers and,
+// The program *run*: reads a table followed by goal records from the standard input, and runs them. It prints the result and,
 // after 0, one line for each fact stored: identifier, symbol, arguments used.
 use libc::STDIN_FILENO;
 use model::Answer;
 use model::CallResult;
+use model::Goal;
+use model::Table;
 use printing::put;
 use printing::put_facts;
 use printing::put_result;
 
 const STEP_LIMIT: u32 = 1000000;
 
-// The longest good table, and 64 goal facts behind it.
-const LONGEST_INPUT: usize = 24833;
+// The longest good table, and as many goal facts behind it as there may be.
+const LONGEST_INPUT: usize = Table::LONGEST + Goal::MAX * Goal::RECORD_LEN;
 
 // The lines of a result, and of the answer that belongs to it.
 fn put_lines(table: &[u8], r: CallResult, answer: &[u8]) {

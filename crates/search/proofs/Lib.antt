@@ -1,6 +1,1 @@
-pub mod Deciding
-pub mod Binds
-pub mod Compacting
-pub mod Remembered
-pub mod Probed
 pub mod Seeking

@@ -55,8 +55,10 @@ module _ (t : Table) {A : List Entry} (a a′ : Trying t A) where
   same-place = let e : some (a .place) ≡ some (a′ .place) = sym (a .occurs) ∙ at ∙ a′ .occurs in cc e
 
   -- an instance that applies to the one applies to the other
-  pub same-applies : (S : List Stored) (T : List Fired) (facts : List Stored) (θ : Binding) → Applies t S T (a .place) (a .id) facts θ → Applies t S T (a′ .place) (a′ .id) facts θ
-  same-applies S T facts θ u = subst (λ (i : FactId). Applies t S T (a′ .place) i facts θ) ids (subst (λ (p : HeadPlace). Applies t S T p (a .id) facts θ) same-place u)
+  pub same-applies : (S : List Stored) (T : List Fired) (facts : List Stored) (θ : Binding) → Applies t S T (a .place) (a .id) facts θ
+      → Applies t S T (a′ .place) (a′ .id) facts θ
+  same-applies S T facts θ u =
+      subst (λ (i : FactId). Applies t S T (a′ .place) i facts θ) ids (subst (λ (p : HeadPlace). Applies t S T p (a .id) facts θ) same-place u)
 
 module _ (t : Table) (σ τ τ′ : State) where
   pub default-not-simplify : Default t σ τ → Simplify t σ τ′ → ⊥

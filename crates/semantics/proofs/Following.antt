@@ -7,7 +7,8 @@ use mathlib.Core.Path.{_≡_, refl, sym, _∙_, ap, subst}
 use mathlib.Core.Bool.{Bool, true, false, not, _&&_, _||_}
 use mathlib.Core.Option.{Option, none, some}
 use mathlib.Core.Logic.{_⊎_, inl, inr}
-use mathlib.Core.List.{List, [], _∷_, _++_, List·Memᴰ, List·Memᴰ·head, List·Memᴰ·tail, List·Memᴰ·cases-cons, List·Memᴰ·not-nil, List·Memᴰ·append-cases, List·Memᴰ·eq-of-singleton}
+use mathlib.Core.List.{List, [], _∷_, _++_, List·Memᴰ, List·Memᴰ·head, List·Memᴰ·tail, List·Memᴰ·cases-cons, List·Memᴰ·not-nil}
+use mathlib.Core.List.{List·Memᴰ·append-cases, List·Memᴰ·eq-of-singleton}
 use lib.IntN.{ℤ}
 use lib.Dec.{eqb}
 use lib.ListN.{length, getD, drop, length-append, length-map}
@@ -26,7 +27,8 @@ use Rattle.model.specs.declared.HeadPlace.{HeadPlace}
 use Rattle.model.specs.Limits.{mostHeads}
 use Rattle.model.specs.Table.{Head, Table, BodyItem, bodyFact, bodyFail, heads, ruleAt}
 use Rattle.model.specs.Search.{sameId, isAmong, nobody, Fired, four, firedOf, sameIds, sameFired, inHistory}
-use Rattle.model.specs.Steps.{State, argumentValues, waitingIf, itemEntry, consEntry, bodyEntries, keep, without, names, pruned, remembered, activated, advanced, dropped}
+use Rattle.model.specs.Steps.{State, argumentValues, waitingIf, itemEntry, consEntry, bodyEntries, keep, without, names, pruned, remembered}
+use Rattle.model.specs.Steps.{activated, advanced, dropped}
 use Rattle.model.specs.Keeping.{keptAll}
 use Rattle.model.proofs.Every.{every, every-weaken}
 use Rattle.model.proofs.Lists.{every-snoc, every-mem, every-kept, OptionIs, and-left, and-right, not-true}
@@ -73,7 +75,8 @@ mem-ids : (i : FactId) (ss : List Stored) → List·Memᴰ i (idsOf ss) → (s :
 mem-ids i [] m = absurd (List·Memᴰ·not-nil m)
 mem-ids i (x ∷ ss) m = go (List·Memᴰ·cases-cons m) (λ m. mem-ids i ss m)
   where
-    go : (i ≡ x .id) ⊎ List·Memᴰ i (idsOf ss) → (List·Memᴰ i (idsOf ss) → (s : Stored) × List·Memᴰ s ss × (s .id ≡ i)) → (s : Stored) × List·Memᴰ s (x ∷ ss) × (s .id ≡ i)
+    go : (i ≡ x .id) ⊎ List·Memᴰ i (idsOf ss) → (List·Memᴰ i (idsOf ss) → (s : Stored) × List·Memᴰ s ss × (s .id ≡ i))
+        → (s : Stored) × List·Memᴰ s (x ∷ ss) × (s .id ≡ i)
     go (inl e) ih = (x, List·Memᴰ·head refl, sym e)
     go (inr m) ih = let r = ih m in (r .0, List·Memᴰ·tail (r .1), r .2)
 
@@ -93,7 +96,8 @@ keep-mem p (y ∷ l) x m = go (p y) refl m (λ m. keep-mem p l x m)
     now q (inl e) ih = (List·Memᴰ·head e, ap p e ∙ q)
     now q (inr m) ih = (List·Memᴰ·tail (ih m .0), ih m .1)
 
-    go : (b : Bool) → p y ≡ b → List·Memᴰ x (elim b [ true ↦ y ∷ keep p l | false ↦ keep p l ]) → (List·Memᴰ x (keep p l) → List·Memᴰ x l × (p x ≡ true)) → List·Memᴰ x (y ∷ l) × (p x ≡ true)
+    go : (b : Bool) → p y ≡ b → List·Memᴰ x (elim b [ true ↦ y ∷ keep p l | false ↦ keep p l ]) → (List·Memᴰ x (keep p l) → List·Memᴰ x l × (p x ≡ true))
+        → List·Memᴰ x (y ∷ l) × (p x ≡ true)
     go true q m ih = now q (List·Memᴰ·cases-cons m) ih
     go false q m ih = (List·Memᴰ·tail (ih m .0), ih m .1)
 
@@ -102,7 +106,8 @@ unfolding keep
 mem-keep p [] x m e = absurd (List·Memᴰ·not-nil m)
 mem-keep p (y ∷ l) x m e = go (p y) refl (List·Memᴰ·cases-cons m) (λ m. mem-keep p l x m e)
   where
-    go : (b : Bool) → p y ≡ b → (x ≡ y) ⊎ List·Memᴰ x l → (List·Memᴰ x l → List·Memᴰ x (keep p l)) → List·Memᴰ x (elim b [ true ↦ y ∷ keep p l | false ↦ keep p l ])
+    go : (b : Bool) → p y ≡ b → (x ≡ y) ⊎ List·Memᴰ x l → (List·Memᴰ x l → List·Memᴰ x (keep p l))
+        → List·Memᴰ x (elim b [ true ↦ y ∷ keep p l | false ↦ keep p l ])
     go true q (inl e′) ih = List·Memᴰ·head e′
     go true q (inr m) ih = List·Memᴰ·tail (ih m)
     go false q (inl e′) ih = absurd (let f = ap p e′ in let w : _≡_ {A = ℕ} 0 1 = cc in omega arith)
@@ -135,7 +140,8 @@ module _ (store H : List Stored) where
       none : (s : Stored) → List·Memᴰ s store → (List·Memᴰ s H → ⊥) → (x : Bool) → isAmong (s .id) (idsOf H) ≡ x → isAmong (s .id) (idsOf H) ≡ false
       none s m n true e =
           let f = mem-ids (s .id) H (mem-among (s .id) (idsOf H) e) in
-          let q : f .0 ≡ s = same-stored 1 hi store (f .0) s rising (every-mem (λ s. List·Memᴰ s store) H u (f .0) (f .1)) m (ap (λ (i : FactId). i .0) (f .2)) in
+          let q : f .0 ≡ s
+          = same-stored 1 hi store (f .0) s rising (every-mem (λ s. List·Memᴰ s store) H u (f .0) (f .1)) m (ap (λ (i : FactId). i .0) (f .2)) in
           absurd (n (subst (λ (y : Stored). List·Memᴰ y H) q (f .1)))
       none s m n false e = e
 
@@ -178,7 +184,8 @@ history-mem e (d ∷ ds) m = go (List·Memᴰ·cases-cons m) (λ m. history-mem 
     or-true true b e = refl
     or-true false b e = e
 
-    go : (e ≡ d) ⊎ List·Memᴰ e ds → (List·Memᴰ e ds → inHistory e ds ≡ true) → ((eqb (d .rule .0) (e .rule .0) && sameIds (d .ids) (e .ids)) || inHistory e ds) ≡ true
+    go : (e ≡ d) ⊎ List·Memᴰ e ds → (List·Memᴰ e ds → inHistory e ds ≡ true)
+        → ((eqb (d .rule .0) (e .rule .0) && sameIds (d .ids) (e .ids)) || inHistory e ds) ≡ true
     go (inl q) ih =
         let a = eq-eqb (d .rule .0) (e .rule .0) (ap (λ (f : Fired). f .rule .0) (sym q)) in
         let b = subst (λ (f : Fired). sameIds (d .ids) (f .ids) ≡ true) (sym q) (same-ids (d .ids)) in
@@ -251,7 +258,8 @@ module _ (t : Table) (st : State) (T : List Fired) (k : Follows t st T) (p : Hea
           absurd (g .gone (f .0) (every-mem (λ s. List·Memᴰ s (st .store)) facts (m .stored) (f .0) (f .1)) (ap (λ (j : FactId). j .0) (f .2)))
 
   -- and one of the definition's history is in T
-  pub known-there : length (heads (ruleAt t (p .rule))) ≤ mostHeads → inHistory (firedOf (p .rule) (idsOf facts)) (st .history) ≡ true → List·Memᴰ (firing p facts) T
+  pub known-there : length (heads (ruleAt t (p .rule))) ≤ mostHeads → inHistory (firedOf (p .rule) (idsOf facts)) (st .history) ≡ true
+      → List·Memᴰ (firing p facts) T
   unfolding firedOf
   known-there few q =
       let d = every-mem (Noted T) (st .history) (k .noted) (firedOf (p .rule) (idsOf facts)) (in-history (firedOf (p .rule) (idsOf facts)) (st .history) q) in
@@ -333,7 +341,8 @@ module _ (t : Table) (st : State) (T : List Fired) (k : Follows t st T) (p : Hea
   names-mem [] e = absurd (let w : _≡_ {A = ℕ} 0 1 = cc in omega arith)
   names-mem (j ∷ is) e = go (isAmong j (idsOf H)) refl e (λ e. names-mem is e)
     where
-      go : (x : Bool) → isAmong j (idsOf H) ≡ x → (x || names is (idsOf H)) ≡ true → (names is (idsOf H) ≡ true → (x : Stored) × List·Memᴰ (x .id) is × List·Memᴰ x H)
+      go : (x : Bool) → isAmong j (idsOf H) ≡ x → (x || names is (idsOf H)) ≡ true
+          → (names is (idsOf H) ≡ true → (x : Stored) × List·Memᴰ (x .id) is × List·Memᴰ x H)
           → (x : Stored) × List·Memᴰ (x .id) (j ∷ is) × List·Memᴰ x H
       go true q e ih = let f = mem-ids j H (mem-among j (idsOf H) q) in (f .0, List·Memᴰ·head (f .2), f .1)
       go false q e ih = let f = ih e in (f .0, List·Memᴰ·tail (f .1), f .2)
@@ -374,11 +383,14 @@ module _ (t : Table) (st : State) (T : List Fired) (k : Follows t st T) (p : Hea
   -- the firings of T before it
   accounted-behind : (removed : List Head) → every (Accounted (after removed) now (st .next)) T
   unfolding firedOf
-  accounted-behind removed = every-weaken (Accounted (st .history) (st .store) (st .next)) (Accounted (after removed) now (st .next)) (λ u a. go removed u a) T (k .accounted)
+  accounted-behind removed =
+      every-weaken (Accounted (st .history) (st .store) (st .next)) (Accounted (after removed) now (st .next)) (λ u a. go removed u a) T (k .accounted)
     where
-      cut : (h : Head) (hs : List Head) (u : Fired) (x : Bool) → names (u .ids) (idsOf H) ≡ x → inHistory (firedOf (u .rule) (u .ids)) (st .history) ≡ true → Accounted (after (h ∷ hs)) now (st .next) u
+      cut : (h : Head) (hs : List Head) (u : Fired) (x : Bool) → names (u .ids) (idsOf H) ≡ x → inHistory (firedOf (u .rule) (u .ids)) (st .history) ≡ true
+          → Accounted (after (h ∷ hs)) now (st .next) u
       cut h hs u true n q = let f = names-mem (u .ids) n in inr (names-gone u (f .0) (f .1) (f .2))
-      cut h hs u false n q = inl (inHistory-pruned (idsOf H) (firedOf (u .rule) (u .ids)) (four-live (idsOf H) (u .ids) nobody-live (names-live (u .ids) n)) (st .history) ∙ q)
+      cut h hs u false n q =
+          inl (inHistory-pruned (idsOf H) (firedOf (u .rule) (u .ids)) (four-live (idsOf H) (u .ids) nobody-live (names-live (u .ids) n)) (st .history) ∙ q)
 
       go : (removed : List Head) (u : Fired) → Accounted (st .history) (st .store) (st .next) u → Accounted (after removed) now (st .next) u
       go removed u (inr g) = inr (gone-later u g)
@@ -392,7 +404,13 @@ module _ (t : Table) (st : State) (T : List Fired) (k : Follows t st T) (p : Hea
       names-gone (firing p facts) (f .0) (ids-mem (f .0) facts (mem-drop (length (ruleAt t (p .rule) .kept)) facts (f .0) (f .1))) (f .1)
     where
       longer : ruleAt t (p .rule) .removed ≡ h ∷ hs → length (ruleAt t (p .rule) .kept) < length facts
-      longer e = omega (arith, heads-count θ (heads (ruleAt t (p .rule))) facts (m .matched), length-append (ruleAt t (p .rule) .kept) (ruleAt t (p .rule) .removed), ap length e)
+      longer e =
+          omega (
+            arith,
+            heads-count θ (heads (ruleAt t (p .rule))) facts (m .matched),
+            length-append (ruleAt t (p .rule) .kept) (ruleAt t (p .rule) .removed),
+            ap length e,
+          )
 
       first : (n : ℕ) (ss : List Stored) → n < length ss → (x : Stored) × List·Memᴰ x (drop n ss)
       first zero [] l = absurd (omega arith)
@@ -420,14 +438,22 @@ module _ (t : Table) (st : State) (T : List Fired) (k : Follows t st T) (p : Hea
     pub accounted : every (Accounted history now (st .next)) (firing p facts ∷ T)
 
   pub pruned-behind : (removed : List Head) → ruleAt t (p .rule) .removed ≡ removed → Behind (after removed)
-  pruned-behind removed e = record { keeps = keeps-behind removed e; noted = noted-behind removed; accounted = (new-accounted removed e, accounted-behind removed) }
+  pruned-behind removed e = record {
+    keeps = keeps-behind removed e;
+    noted = noted-behind removed;
+    accounted = (new-accounted removed e, accounted-behind removed);
+  }
 
-  pub kept-behind : (removed : List Head) → ruleAt t (p .rule) .removed ≡ removed → Behind (keptAll removed (firedOf (p .rule) (idsOf facts)) (st .history))
+  pub kept-behind : (removed : List Head) → ruleAt t (p .rule) .removed ≡ removed
+      → Behind (keptAll removed (firedOf (p .rule) (idsOf facts)) (idsOf H) (st .history))
   kept-behind [] e = pruned-behind [] e
   kept-behind (h ∷ hs) e = record {
     keeps = k .keeps;
     noted = noted-later (firing p facts ∷ T) (λ u n. List·Memᴰ·tail n);
-    accounted = (inr (new-gone h hs e), every-weaken (Accounted (st .history) (st .store) (st .next)) (Accounted (st .history) now (st .next)) later T (k .accounted));
+    accounted = (
+      inr (new-gone h hs e),
+      every-weaken (Accounted (st .history) (st .store) (st .next)) (Accounted (st .history) now (st .next)) later T (k .accounted),
+    );
   }
     where
       later : (u : Fired) → Accounted (st .history) (st .store) (st .next) u → Accounted (st .history) now (st .next) u
@@ -463,7 +489,10 @@ item-later n s (Active i j) u = omega (arith, u)
 item-later n s Fail u = u
 
 whole-later : (t : Table) (n : ℕ) (u : Fired) → Whole t n u → Whole t (suc n) u
-whole-later t n u w = record { counted = w .counted; given = every-weaken (λ (i : FactId). i .0 < n) (λ (i : FactId). i .0 < suc n) (λ i l. omega (arith, l)) (u .ids) (w .given) }
+whole-later t n u w = record {
+  counted = w .counted;
+  given = every-weaken (λ (i : FactId). i .0 < n) (λ (i : FactId). i .0 < suc n) (λ i l. omega (arith, l)) (u .ids) (w .given);
+}
 
 module _ (t : Table) (st : State) (T : List Fired) (k : Follows t st T) (e : Entry) (es : List Entry) (entries : every (EntryIs (st .next)) (e ∷ es)) where
   pub activated-follows : (f : Fact) → Follows t (activated st e es f) T
@@ -472,20 +501,27 @@ module _ (t : Table) (st : State) (T : List Fired) (k : Follows t st T) (e : Ent
       let new : Stored = record { id = record { 0 = st .next }; fact = f } in
       record {
         rising = rising-snoc 1 (st .next) (st .store) new refl (k .rising);
-        entries = (omega arith, every-weaken (EntryIs (st .next)) (EntryIs (suc (st .next))) (λ x u. item-later (st .next) (x .symbol) (x .item) u) es (entries .1));
+        entries = (
+          omega arith,
+          every-weaken (EntryIs (st .next)) (EntryIs (suc (st .next))) (λ x u. item-later (st .next) (x .symbol) (x .item) u) es (entries .1),
+        );
         keeps = k .keeps;
         noted = k .noted;
-        accounted = every-weaken (Accounted (st .history) (st .store) (st .next)) (Accounted (st .history) (st .store ++ (new ∷ [])) (suc (st .next))) later T (k .accounted);
+        accounted = every-weaken (Accounted (st .history) (st .store) (st .next))
+            (Accounted (st .history) (st .store ++ (new ∷ [])) (suc (st .next))) later T (k .accounted);
         whole = every-weaken (Whole t (st .next)) (Whole t (suc (st .next))) (whole-later t (st .next)) T (k .whole);
       }
     where
-      other : (u : Fired) (g : NamesGone (st .store) (st .next) u) (s : Stored) → List·Memᴰ s (st .store) ⊎ List·Memᴰ s (record { id = record { 0 = st .next }; fact = f } ∷ []) → s .id .0 ≡ g .id .0 → ⊥
+      other : (u : Fired) (g : NamesGone (st .store) (st .next) u) (s : Stored)
+          → List·Memᴰ s (st .store) ⊎ List·Memᴰ s (record { id = record { 0 = st .next }; fact = f } ∷ []) → s .id .0 ≡ g .id .0 → ⊥
       other u g s (inl m) e = g .gone s m e
       other u g s (inr m) e = omega (arith, g .given, ap (λ (x : Stored). x .id .0) (List·Memᴰ·eq-of-singleton m))
 
-      later : (u : Fired) → Accounted (st .history) (st .store) (st .next) u → Accounted (st .history) (st .store ++ (record { id = record { 0 = st .next }; fact = f } ∷ [])) (suc (st .next)) u
+      later : (u : Fired) → Accounted (st .history) (st .store) (st .next) u
+          → Accounted (st .history) (st .store ++ (record { id = record { 0 = st .next }; fact = f } ∷ [])) (suc (st .next)) u
       later u (inl h) = inl h
-      later u (inr g) = inr (record { id = g .id; named = g .named; given = omega (arith, g .given); gone = λ s m e. other u g s (List·Memᴰ·append-cases (st .store) m) e })
+      later u (inr g) =
+          inr (record { id = g .id; named = g .named; given = omega (arith, g .given); gone = λ s m e. other u g s (List·Memᴰ·append-cases (st .store) m) e })
 
   pub dropped-follows : Follows t (dropped st es) T
   unfolding dropped
@@ -493,4 +529,11 @@ module _ (t : Table) (st : State) (T : List Fired) (k : Follows t st T) (e : Ent
 
   pub advanced-follows : (i : FactId) (j : ℕ) → i .0 < st .next → Follows t (advanced st e es i j) T
   unfolding advanced
-  advanced-follows i j l = record { rising = k .rising; entries = (l, entries .1); keeps = k .keeps; noted = k .noted; accounted = k .accounted; whole = k .whole }
+  advanced-follows i j l = record {
+    rising = k .rising;
+    entries = (l, entries .1);
+    keeps = k .keeps;
+    noted = k .noted;
+    accounted = k .accounted;
+    whole = k .whole;
+  }

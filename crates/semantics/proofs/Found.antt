@@ -21,7 +21,8 @@ use Rattle.model.specs.declared.HeadPlace.{HeadPlace}
 use Rattle.model.specs.Table.{Head, Rule, heads}
 use Rattle.model.specs.Guards.{guardValue}
 use Rattle.model.specs.Matching.{matchHead}
-use Rattle.model.specs.Search.{Fired, firedOf, inHistory, Found, nothing, undefinedGuard, applies, unlessKnown, orElse, firstOf, andThen, mayStand, noHead, complete, candidate, search}
+use Rattle.model.specs.Search.{Fired, firedOf, inHistory, Found, nothing, undefinedGuard, applies, unlessKnown, orElse, firstOf, andThen, mayStand}
+use Rattle.model.specs.Search.{noHead, complete, candidate, search}
 use Rattle.model.proofs.Lists.{every-mem}
 use Rattle.model.proofs.Sound.{idsOf}
 use Rattle.model.proofs.Kept.{Rising, rising-within}
@@ -63,9 +64,15 @@ module _ (history : List Fired) (p : HeadPlace) (r : Rule) where
   Verdict C chosen (applies is b) = (ss : List Stored) × Picked C chosen True ss b × (is ≡ chosen ++ idsOf ss)
 
   -- the same ways
-  module _ (C D : List Stored → Binding → Type 0) (into : (ss : List Stored) (θ : Binding) → C ss θ → D ss θ) (from : (ss : List Stored) (θ : Binding) → D ss θ → C ss θ) where
+  module _ (C D : List Stored → Binding → Type 0) (into : (ss : List Stored) (θ : Binding) → C ss θ → D ss θ)
+      (from : (ss : List Stored) (θ : Binding) → D ss θ → C ss θ) where
     picked-same : (chosen : List FactId) (g : Truth) (ss : List Stored) (θ : Binding) → Picked C chosen g ss θ → Picked D chosen g ss θ
-    picked-same chosen g ss θ u = record { way = into ss θ (u .way); fresh = u .fresh; guard = u .guard; first = λ ss′ θ′ d b. u .first ss′ θ′ (from ss′ θ′ d) b }
+    picked-same chosen g ss θ u = record {
+      way = into ss θ (u .way);
+      fresh = u .fresh;
+      guard = u .guard;
+      first = λ ss′ θ′ d b. u .first ss′ θ′ (from ss′ θ′ d) b;
+    }
 
     pub verdict-same : (chosen : List FactId) (o : Found) → Verdict C chosen o → Verdict D chosen o
     verdict-same chosen nothing u = λ ss θ d. u ss θ (from ss θ d)
@@ -82,7 +89,8 @@ module _ (history : List Fired) (p : HeadPlace) (r : Rule) where
         → C ss θ → Passed (chosen ++ idsOf ss) θ
     passed-cons ss θ h c =
         let f = from ss θ c in
-        subst (λ (l : List Stored). Passed (chosen ++ idsOf l) θ) (sym (f .1)) (subst (λ (l : List FactId). Passed l θ) (further (f .0)) (h (f .0) (f .1) (f .2)))
+        subst (λ (l : List Stored). Passed (chosen ++ idsOf l) θ) (sym (f .1))
+        (subst (λ (l : List FactId). Passed l θ) (further (f .0)) (h (f .0) (f .1) (f .2)))
 
     before-tail : (rest ss : List Stored) → Before (idsOf (x ∷ rest)) (idsOf (x ∷ ss)) → Before (idsOf rest) (idsOf ss)
     before-tail rest ss (inl l) = absurd (omega (arith, l))
@@ -167,7 +175,8 @@ module _ (store : List Stored) (history : List Fired) (p : HeadPlace) (r : Rule)
     done-ids [] θ c = append-nil chosen
     done-ids (s ∷ ss) θ c = absurd (c .fill)
 
-    done-picked : (g : Truth) → inHistory (firedOf (p .rule) chosen) history ≡ false → guardValue b (r .guards) ≡ g → Picked history p r (Completion [] chosen b) chosen g [] b
+    done-picked : (g : Truth) → inHistory (firedOf (p .rule) chosen) history ≡ false → guardValue b (r .guards) ≡ g
+        → Picked history p r (Completion [] chosen b) chosen g [] b
     done-picked g k e = record {
       way = record { fill = tt; part = part-refl b; least = λ η q m. q };
       fresh = rw (append-nil chosen) k;
@@ -181,14 +190,17 @@ module _ (store : List Stored) (history : List Fired) (p : HeadPlace) (r : Rule)
 
     done-verdict : (known : Bool) (g : Truth) → inHistory (firedOf (p .rule) chosen) history ≡ known → guardValue b (r .guards) ≡ g
         → Verdict history p r (Completion [] chosen b) chosen (unlessKnown known g chosen b)
-    done-verdict true g k e = λ ss θ c f. absurd (let n = ap (λ (l : List FactId). inHistory (firedOf (p .rule) l) history) (done-ids ss θ c) in let z : _≡_ {A = ℕ} 0 1 = cc in omega arith)
+    done-verdict true g k e =
+        λ ss θ c f. absurd (let n = ap (λ (l : List FactId). inHistory (firedOf (p .rule) l) history) (done-ids ss θ c) in
+        let z : _≡_ {A = ℕ} 0 1 = cc in omega arith)
     done-verdict false True k e = ([], done-picked True k e, sym (append-nil chosen))
     done-verdict false False k e = λ ss θ c f. done-guard ss θ c ∙ e
     done-verdict false Unknown k e = ([], b, done-picked Unknown k e)
 
   -- ---- the next head is the active fact's
 
-  module _ (mine : List·Memᴰ own store) (h : Head) (hs : List Head) (chosen : List FactId) (b : Binding) (fits : HeadIs b h (own .fact)) (here : eqb (length chosen) (p .head) ≡ true) where
+  module _ (mine : List·Memᴰ own store) (h : Head) (hs : List Head) (chosen : List FactId) (b : Binding) (fits : HeadIs b h (own .fact))
+      (here : eqb (length chosen) (p .head) ≡ true) where
     own-into : (ss : List Stored) (θ : Binding) → Completion hs (chosen ++ (own .id ∷ [])) b ss θ → Completion (h ∷ hs) chosen b (own ∷ ss) θ
     own-into ss θ c = record {
       fill = (head-later h (own .fact) b θ (c .part) fits, mine, subst (λ (x : Bool). At x chosen own) (sym here) refl, c .fill);
@@ -196,7 +208,8 @@ module _ (store : List Stored) (history : List Fired) (p : HeadPlace) (r : Rule)
       least = λ η q m. c .least η q (m .1);
     }
 
-    own-from : (ss : List Stored) (θ : Binding) → Completion (h ∷ hs) chosen b ss θ → (rest : List Stored) × (ss ≡ own ∷ rest) × Completion hs (chosen ++ (own .id ∷ [])) b rest θ
+    own-from : (ss : List Stored) (θ : Binding) → Completion (h ∷ hs) chosen b ss θ
+        → (rest : List Stored) × (ss ≡ own ∷ rest) × Completion hs (chosen ++ (own .id ∷ [])) b rest θ
     own-from [] θ c = absurd (c .fill)
     own-from (s ∷ rest) θ c =
         let e : s ≡ own = subst (λ (x : Bool). At x chosen s) here (c .fill .2) in (
@@ -235,7 +248,8 @@ module _ (store : List Stored) (history : List Fired) (p : HeadPlace) (r : Rule)
     fits s [] θ c = absurd (c .1)
     fits s (x ∷ xs) θ c = subst (λ (y : Stored). HeadIs θ h (y .fact)) (c .1) (c .0 .fill .0)
 
-    module _ (s : Stored) (m : List·Memᴰ s store) (may : mayStand (own .id) chosen (s .id) ≡ true) (c : Binding) (u : Extends (λ η. HeadIs η h (s .fact)) b c) where
+    module _ (s : Stored) (m : List·Memᴰ s store) (may : mayStand (own .id) chosen (s .id) ≡ true) (c : Binding)
+        (u : Extends (λ η. HeadIs η h (s .fact)) b c) where
       with-into : (ss : List Stored) (θ : Binding) → Completion hs (chosen ++ (s .id ∷ [])) c ss θ → With s (s ∷ ss) θ
       with-into ss θ d = (
         record {
@@ -254,12 +268,14 @@ module _ (store : List Stored) (history : List Fired) (p : HeadPlace) (r : Rule)
         record {
           fill = subst (λ (y : Stored). Fill θ hs (chosen ++ (y .id ∷ [])) rest) (d .1) (d .0 .fill .3);
           part = u .least θ (d .0 .part) (fits s (x ∷ rest) θ d);
-          least = λ η q n. d .0 .least η (part-trans b c η (u .part) q) (subst (λ (y : Stored). HeadIs η h (y .fact)) (sym (d .1)) (head-later h (s .fact) c η q (u .fits)), n);
+          least = λ η q n. d .0 .least η (part-trans b c η (u .part) q)
+              (subst (λ (y : Stored). HeadIs η h (y .fact)) (sym (d .1)) (head-later h (s .fact) c η q (u .fits)), n);
         },
       )
 
     module _ (ih : (s : Stored) (c : Binding) → Sized c → PartOf b c
-        → Verdict history p r (Completion hs (chosen ++ (s .id ∷ [])) c) (chosen ++ (s .id ∷ [])) (search store history p r (own .id) hs (chosen ++ (s .id ∷ [])) c)) where
+        → Verdict history p r (Completion hs (chosen ++ (s .id ∷ [])) c) (chosen ++ (s .id ∷ []))
+        (search store history p r (own .id) hs (chosen ++ (s .id ∷ [])) c)) where
       abbrev try : Stored → Found
       try s = andThen (candidate store history p r (own .id) h chosen b s) (λ c. search store history p r (own .id) hs (chosen ++ (s .id ∷ [])) c)
 
@@ -275,11 +291,13 @@ module _ (store : List Stored) (history : List Fired) (p : HeadPlace) (r : Rule)
               (search store history p r (own .id) hs (chosen ++ (s .id ∷ [])) c) (ih s c (u .sized) (u .part))
 
           go : (x : Bool) → mayStand (own .id) chosen (s .id) ≡ x
-              → Verdict history p r (With s) chosen (andThen (elim x [ true ↦ matchHead h (s .fact) b | false ↦ none ]) (λ c. search store history p r (own .id) hs (chosen ++ (s .id ∷ [])) c))
+              → Verdict history p r (With s) chosen
+              (andThen (elim x [ true ↦ matchHead h (s .fact) b | false ↦ none ]) (λ c. search store history p r (own .id) hs (chosen ++ (s .id ∷ [])) c))
           go true e = matches e (matchHead h (s .fact) b) (head-matched h (s .fact) b k)
           go false e = λ ss θ c. absurd (let f = stands s ss θ c in let z : _≡_ {A = ℕ} 0 1 = cc in omega arith)
 
-      list-verdict : (l : List Stored) (lo hi : ℕ) → ((s : Stored) → List·Memᴰ s l → List·Memᴰ s store) → Rising lo hi l → Verdict history p r (Among l) chosen (firstOf try l)
+      list-verdict : (l : List Stored) (lo hi : ℕ) → ((s : Stored) → List·Memᴰ s l → List·Memᴰ s store) → Rising lo hi l
+          → Verdict history p r (Among l) chosen (firstOf try l)
       unfolding firstOf
       list-verdict [] lo hi sub ri = λ ss θ c. absurd (none ss θ c)
         where
@@ -290,7 +308,8 @@ module _ (store : List Stored) (history : List Fired) (p : HeadPlace) (r : Rule)
           verdict-or history p r (Among (s ∷ l)) (With s) (Among l) chosen parts into₁ into₂ behind (try s) (firstOf try l)
           (one-verdict s (sub s (List·Memᴰ·head refl))) (list-verdict l (suc (s .id .0)) hi (λ x m. sub x (List·Memᴰ·tail m)) (ri .1))
         where
-          which : (x : Stored) (xs : List Stored) (θ : Binding) → Completion (h ∷ hs) chosen b (x ∷ xs) θ → (x ≡ s) ⊎ List·Memᴰ x l → With s (x ∷ xs) θ ⊎ Among l (x ∷ xs) θ
+          which : (x : Stored) (xs : List Stored) (θ : Binding) → Completion (h ∷ hs) chosen b (x ∷ xs) θ → (x ≡ s) ⊎ List·Memᴰ x l
+              → With s (x ∷ xs) θ ⊎ Among l (x ∷ xs) θ
           which x xs θ c (inl e) = inl (c, e)
           which x xs θ c (inr m) = inr (c, m)
 
@@ -308,7 +327,13 @@ module _ (store : List Stored) (history : List Fired) (p : HeadPlace) (r : Rule)
 
           above : (x y : Stored) (xs ys : List Stored) → x ≡ s → List·Memᴰ y l → Before (idsOf (y ∷ ys)) (idsOf (x ∷ xs)) → ⊥
           above x y xs ys e m (inl b) = omega (arith, every-mem _ l (rising-within (suc (s .id .0)) hi l (ri .1)) y m .0, ap (λ (z : Stored). z .id .0) e, b)
-          above x y xs ys e m (inr b) = omega (arith, every-mem _ l (rising-within (suc (s .id .0)) hi l (ri .1)) y m .0, ap (λ (z : Stored). z .id .0) e, ap (λ (i : FactId). i .0) (b .0))
+          above x y xs ys e m (inr b) =
+              omega (
+                arith,
+                every-mem _ l (rising-within (suc (s .id .0)) hi l (ri .1)) y m .0,
+                ap (λ (z : Stored). z .id .0) e,
+                ap (λ (i : FactId). i .0) (b .0),
+              )
 
           behind : (ss ss′ : List Stored) (θ θ′ : Binding) → With s ss θ → Among l ss′ θ′ → Before (idsOf ss′) (idsOf ss) → ⊥
           behind [] ss′ θ θ′ c d b = c .1
@@ -333,14 +358,24 @@ module _ (store : List Stored) (history : List Fired) (p : HeadPlace) (r : Rule)
         next i = ap (λ (n : ℕ). drop n (heads r)) (length-snoc chosen i) ∙ drop-next (length chosen) (heads r) h hs d
 
         go : (x : Bool) → eqb (length chosen) (p .head) ≡ x
-            → ((chosen : List FactId) (b : Binding) → Sized b → OwnFits b → drop (length chosen) (heads r) ≡ hs → Verdict history p r (Completion hs chosen b) chosen (search store history p r (own .id) hs chosen b))
-            → Verdict history p r (Completion (h ∷ hs) chosen b) chosen (elim x [ true ↦ search store history p r (own .id) hs (chosen ++ (own .id ∷ [])) b | false ↦ firstOf (λ s. andThen (candidate store history p r (own .id) h chosen b s) (λ c. search store history p r (own .id) hs (chosen ++ (s .id ∷ [])) c)) store ])
+            → ((chosen : List FactId) (b : Binding) → Sized b → OwnFits b → drop (length chosen) (heads r) ≡ hs
+            → Verdict history p r (Completion hs chosen b) chosen (search store history p r (own .id) hs chosen b))
+            → Verdict history p r (Completion (h ∷ hs) chosen b) chosen
+            (elim x [
+              | true ↦ search store history p r (own .id) hs (chosen ++ (own .id ∷ [])) b
+              | false ↦ firstOf (λ s. andThen (candidate store history p r (own .id) h chosen b s)
+                  (λ c. search store history p r (own .id) hs (chosen ++ (s .id ∷ [])) c)) store
+            ])
         go true e ih =
-            let here : getD (heads r) (p .head) noHead ≡ h = ap (λ (n : ℕ). getD (heads r) n noHead) (sym (eqb-true (length chosen) (p .head) e)) ∙ drop-at (length chosen) (heads r) h noHead hs d in
+            let here : getD (heads r) (p .head) noHead ≡ h
+            = ap (λ (n : ℕ). getD (heads r) n noHead) (sym (eqb-true (length chosen) (p .head) e)) ∙ drop-at (length chosen) (heads r) h noHead hs d in
             let fits : HeadIs b h (own .fact) = subst (λ (x : Head). HeadIs b x (own .fact)) here f in
             verdict-cons history p r (Completion (h ∷ hs) chosen b) (Completion hs (chosen ++ (own .id ∷ [])) b) chosen own
-            (own-into mine h hs chosen b fits e) (own-from mine h hs chosen b fits e) (search store history p r (own .id) hs (chosen ++ (own .id ∷ [])) b) (ih (chosen ++ (own .id ∷ [])) b k f (next (own .id)))
+            (own-into mine h hs chosen b fits e) (own-from mine h hs chosen b fits e) (search store history p r (own .id) hs (chosen ++ (own .id ∷ [])) b)
+            (ih (chosen ++ (own .id ∷ [])) b k f (next (own .id)))
         go false e ih =
             verdict-same history p r (Among h hs chosen b k e store) (Completion (h ∷ hs) chosen b) (λ ss θ c. c .0) (all-among h hs chosen b k e) chosen
-            (firstOf (λ s. andThen (candidate store history p r (own .id) h chosen b s) (λ c. search store history p r (own .id) hs (chosen ++ (s .id ∷ [])) c)) store)
-            (list-verdict h hs chosen b k e (λ s c j q. ih (chosen ++ (s .id ∷ [])) c j (head-later (getD (heads r) (p .head) noHead) (own .fact) b c q f) (next (s .id))) store 1 hi (λ s m. m) rising)
+            (firstOf (λ s. andThen (candidate store history p r (own .id) h chosen b s)
+            (λ c. search store history p r (own .id) hs (chosen ++ (s .id ∷ [])) c)) store)
+            (list-verdict h hs chosen b k e (λ s c j q. ih (chosen ++ (s .id ∷ [])) c j (head-later (getD (heads r) (p .head) noHead) (own .fact) b c q f)
+            (next (s .id))) store 1 hi (λ s m. m) rising)

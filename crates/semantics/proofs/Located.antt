@@ -19,8 +19,9 @@ use Rattle.model.specs.declared.Stored.{Stored}
 use Rattle.model.specs.declared.Binding.{Binding}
 use Rattle.model.specs.Table.{Table, ruleAt, places}
 use Rattle.model.specs.Search.{Fired, firedOf, inHistory}
-use Rattle.model.specs.Steps.{State, start, Outcome, moves, fires, fails, stops, stepItem}
-use Rattle.model.specs.Run.{Ended, endedAs, runFrom, run}
+use Rattle.model.specs.Steps.{State, start, prunes, Outcome, moves, fires, fails, stops, stepItem}
+use Rattle.model.specs.Results.{Counts, noCounts}
+use Rattle.model.specs.Run.{Ended, endedAs, stepped, firedOnce, runFrom, run}
 use Rattle.model.proofs.Every.{every, every-weaken}
 use Rattle.model.proofs.Lists.{every-mem}
 use Rattle.model.proofs.Sound.{idsOf}
@@ -30,7 +31,8 @@ use Rattle.model.proofs.Decoded.{PlaceIn, places-in}
 use Rattle.semantics.specs.Instances.{Matching, firing}
 use Rattle.semantics.specs.Refined.{Trying, ruleTried}
 use Rattle.semantics.specs.Chosen.{Moves, activates, drops, defaults, FiresFirst, simplifies, propagates}
-use Rattle.semantics.specs.Located.{Local, OtherItem, Fresh, LocalStep, flush, activate, remove, keep, suspend, drops as drop-, LocalDerivation, stays, goes}
+use Rattle.semantics.specs.Located.{Local, OtherItem, Fresh, LocalStep, flush, activate, remove, keep, suspend, drops as drop-, LocalDerivation}
+use Rattle.semantics.specs.Located.{stays, goes}
 use Rattle.semantics.proofs.Occurrence.{index-mem}
 use Rattle.semantics.proofs.Following.{Noted, ItemIs, EntryIs, Whole, Keeps, Follows, known-here, in-history}
 use Rattle.semantics.proofs.Steps.{FewHeads, seen, start-follows, Taken, step-taken}
@@ -56,7 +58,9 @@ module _ (t : Table) where
   -- a head place in the removed part
   removed-some : {A : List Entry} (a : Trying t A) → length (ruleTried t a .kept) ≤ a .place .head → ruleTried t a .removed ≡ [] → ⊥
   removed-some a l e =
-      let p = every-mem (PlaceIn t (a .symbol)) (places t (a .symbol)) (places-in t (a .symbol)) (a .place) (index-mem (places t (a .symbol)) (a .j - 1) (a .place) (a .occurs)) in
+      let p
+      = every-mem (PlaceIn t (a .symbol)) (places t (a .symbol)) (places-in t (a .symbol)) (a .place)
+      (index-mem (places t (a .symbol)) (a .j - 1) (a .place) (a .occurs)) in
       omega (arith, p .headIn, length-append (ruleTried t a .kept) (ruleTried t a .removed), ap length e)
 
   module _ (st : State) (T : List Fired) (k : Follows t st T) where
@@ -71,10 +75,13 @@ module _ (t : Table) where
     -- the next identifier is fresh
     fresh-next : Fresh (record { 0 = st .next }) (local st T)
     fresh-next = record {
-      stored = every-weaken (λ (s : Stored). (1 ≤ s .id .0) × (s .id .0 < st .next)) (λ (s : Stored). s .id .0 ≡ st .next → ⊥) (λ s g e. omega (arith, g .1, e)) (st .store) (rising-within 1 (st .next) (st .store) (k .rising));
-      active = every-weaken (EntryIs (st .next)) (λ (e : Entry). OtherItem (record { 0 = st .next }) (e .item)) (λ e u. other (e .symbol) (e .item) u) (st .stack) (k .entries);
+      stored = every-weaken (λ (s : Stored). (1 ≤ s .id .0) × (s .id .0 < st .next)) (λ (s : Stored). s .id .0 ≡ st .next → ⊥)
+          (λ s g e. omega (arith, g .1, e)) (st .store) (rising-within 1 (st .next) (st .store) (k .rising));
+      active = every-weaken (EntryIs (st .next)) (λ (e : Entry). OtherItem (record { 0 = st .next }) (e .item)) (λ e u. other (e .symbol) (e .item) u)
+          (st .stack) (k .entries);
       fired = every-weaken (Whole t (st .next)) (λ (u : Fired). every (λ (i : FactId). i .0 ≡ st .next → ⊥) (u .ids))
-          (λ u w. every-weaken (λ (i : FactId). i .0 < st .next) (λ (i : FactId). i .0 ≡ st .next → ⊥) (λ i l e. omega (arith, l, e)) (u .ids) (w .given)) T (k .whole);
+          (λ u w. every-weaken (λ (i : FactId). i .0 < st .next) (λ (i : FactId). i .0 ≡ st .next → ⊥) (λ i l e. omega (arith, l, e)) (u .ids) (w .given)) T
+          (k .whole);
     }
       where
         other : (s : Symbol) (i : Item) → ItemIs (st .next) s i → OtherItem (record { 0 = st .next }) i
@@ -83,8 +90,20 @@ module _ (t : Table) where
         other s Fail u = tt
 
     moves-locally : (next : State) (T′ : List Fired) → Moves t (seen st T) (seen next T′) → LocalStep t (local st T) (local next T′)
-    moves-locally next T′ (activates s) = activate (record { c = s .c; under = s .under; d = record { 0 = st .next }; top = s .top; fresh = fresh-next; U = refl; G = s .stack; S = s .store; H = s .history })
-    moves-locally next T′ (drops s) = drop- (record { symbol = s .symbol; d = s .id; i = s .j; top = s .top; absent = s .absent; U = refl; S = s .store; H = s .history })
+    moves-locally next T′ (activates s) =
+        activate (record {
+          c = s .c;
+          under = s .under;
+          d = record { 0 = st .next };
+          top = s .top;
+          fresh = fresh-next;
+          U = refl;
+          G = s .stack;
+          S = s .store;
+          H = s .history;
+        })
+    moves-locally next T′ (drops s) =
+        drop- (record { symbol = s .symbol; d = s .id; i = s .j; top = s .top; absent = s .absent; U = refl; S = s .store; H = s .history })
     moves-locally next T′ (defaults s) = suspend (record {
       tried = s .tried;
       noRemove = λ l facts θ e. s .none facts θ (record { enabled = e; fresh = removed-fresh (s .tried) facts θ l (e .matching) });
@@ -120,12 +139,34 @@ module _ (t : Table) where
   fires-locally st next T T′ k (simplifies s u) = (
     T,
     forgets next (firing (s .tried .place) (s .facts)) T (removed-some (s .tried) (s .removed)) (subst (Follows t next) (s .history) k),
-    remove (record { tried = s .tried; removed = s .removed; facts = s .facts; φ = s .θ; B = s .C; enabled = s .applies .enabled; fires = s .fires; U = refl; G = s .stack; H = refl }),
+    remove (record {
+      tried = s .tried;
+      removed = s .removed;
+      facts = s .facts;
+      φ = s .θ;
+      B = s .C;
+      enabled = s .applies .enabled;
+      fires = s .fires;
+      U = refl;
+      G = s .stack;
+      H = refl;
+    }),
   )
   fires-locally st next T T′ k (propagates s u) = (
     T′,
     k,
-    keep (record { tried = s .tried; kept = s .kept; facts = s .facts; φ = s .θ; B = s .C; applies = s .applies; fires = s .fires; U = refl; G = s .stack; H = s .history }),
+    keep (record {
+      tried = s .tried;
+      kept = s .kept;
+      facts = s .facts;
+      φ = s .θ;
+      B = s .C;
+      applies = s .applies;
+      fires = s .fires;
+      U = refl;
+      G = s .stack;
+      H = s .history;
+    }),
   )
 
 module _ (t : Table) (few : FewHeads t) (st : State) (H : List Fired) (k : Follows t st H) (e : Entry) (es : List Entry) (q : st .stack ≡ e ∷ es) where
@@ -140,51 +181,55 @@ module _ (t : Table) (few : FewHeads t) (st : State) (H : List Fired) (k : Follo
 
 -- ---- a run that ends in 0 is a whole derivation of the figure
 
--- from σ, behind k steps
-pub record LocallyDone (t : Table) (σ : Local) (k : ℕ) (r : Ended) : Type 0 where
+-- from σ, behind what c counts
+pub record LocallyDone (t : Table) (σ : Local) (c : Counts) (r : Ended) : Type 0 where
   pub more : ℕ
   pub last : Local
   pub derivation : LocalDerivation t σ more last
-  pub steps : r .result .steps ≡ k + more
+  pub steps : r .result .steps ≡ c .steps + more
   pub buffer : last .U ≡ []
   pub idle : last .G ≡ []
   pub store : r .store ≡ last .S
 
 module _ (t : Table) (few : FewHeads t) where
-  abbrev All : ℕ → ℕ → ℕ → State → Ended → Type 0
-  All limit k f st r = (H : List Fired) → Follows t st H → r .result .number ≡ 0 → LocallyDone t (local st H) k r
+  abbrev All : ℕ → Counts → State → Ended → Type 0
+  All limit c st r = (H : List Fired) → Follows t st H → r .result .number ≡ 0 → LocallyDone t (local st H) c r
 
   -- one transition before the others
-  before : (σ τ : Local) (k : ℕ) (r : Ended) → LocalStep t σ τ → LocallyDone t τ (suc k) r → LocallyDone t σ k r
-  before σ τ k r s d = record {
-    more = suc (d .more);
-    last = d .last;
-    derivation = goes s (d .derivation);
-    steps = omega (arith, d .steps);
-    buffer = d .buffer;
-    idle = d .idle;
-    store = d .store;
+  before : (σ τ : Local) (c d : Counts) (r : Ended) → d .steps ≡ suc (c .steps) → LocalStep t σ τ → LocallyDone t τ d r → LocallyDone t σ c r
+  before σ τ c d r e s x = record {
+    more = suc (x .more);
+    last = x .last;
+    derivation = goes s (x .derivation);
+    steps = omega (arith, x .steps);
+    buffer = x .buffer;
+    idle = x .idle;
+    store = x .store;
   }
 
-  turn-local : (limit k f : ℕ) (st : State) (H : List Fired) → ((k f : ℕ) (st : State) → All limit k f st (runFrom t limit k f st)) → (o : Outcome) → LocallyTaken t st H o
-      → behindStep t limit k f st o .result .number ≡ 0 → LocallyDone t (local st H) k (behindStep t limit k f st o)
+  turn-local : (limit : ℕ) (c : Counts) (st : State) (H : List Fired) → ((c : Counts) (st : State) → All limit c st (runFrom t limit c st))
+      → (o : Outcome) → LocallyTaken t st H o
+      → behindStep prunes t limit c st o .result .number ≡ 0 → LocallyDone t (local st H) c (behindStep prunes t limit c st o)
   unfolding endedAs
-  turn-local limit k f st H ih (moves next) u z = before (local st H) (local next (u .0)) k (runFrom t limit (suc k) f next) (u .2) (ih (suc k) f next (u .0) (u .1) z)
-  turn-local limit k f st H ih (fires next) u z = before (local st H) (local next (u .0)) k (runFrom t limit (suc k) (suc f) next) (u .2) (ih (suc k) (suc f) next (u .0) (u .1) z)
-  turn-local limit k f st H ih fails u z = absurd (omega (arith, z))
-  turn-local limit k f st H ih (stops n p) u z = absurd (omega (arith, z, u))
+  turn-local limit c st H ih (moves next) u z =
+      before (local st H) (local next (u .0)) c (stepped c) (runFrom t limit (stepped c) next) refl (u .2) (ih (stepped c) next (u .0) (u .1) z)
+  turn-local limit c st H ih (fires next) u z =
+      before (local st H) (local next (u .0)) c (firedOnce c) (runFrom t limit (firedOnce c) next) refl (u .2) (ih (firedOnce c) next (u .0) (u .1) z)
+  turn-local limit c st H ih fails u z = absurd (omega (arith, z))
+  turn-local limit c st H ih (stops n p) u z = absurd (omega (arith, z, u))
 
-  from-local : (limit k f : ℕ) (st : State) → All limit k f st (runFrom t limit k f st)
+  from-local : (limit : ℕ) (c : Counts) (st : State) → All limit c st (runFrom t limit c st)
   unfolding endedAs
   from-local =
       every-run t All
-      (λ limit k f st e H d z. record { more = 0; last = local st H; derivation = stays; steps = omega arith; buffer = refl; idle = e; store = refl })
-      (λ k f st H d z. absurd (omega (arith, z)))
-      (λ limit k f st e es q ih H d z. turn-local limit k f st H ih (stepItem t st e es (e .item)) (step-local t few st H d e es q) z)
+      (λ limit c st e H d z. record { more = 0; last = local st H; derivation = stays; steps = omega arith; buffer = refl; idle = e; store = refl })
+      (λ c st H d z. absurd (omega (arith, z)))
+      (λ limit c st e es q ih H d z. turn-local limit c st H ih (stepItem t st e es (e .item)) (step-local t few st H d e es q) z)
 
-  pub run-local : (goal : List Fact) (limit : ℕ) → run t goal limit .result .number ≡ 0 → LocallyDone t (local (start goal) []) 0 (run t goal limit)
+  pub run-local : (goal : List Fact) (limit : ℕ) → run t limit (start goal) .result .number ≡ 0
+      → LocallyDone t (local (start goal) []) noCounts (run t limit (start goal))
   unfolding run
-  run-local goal limit z = from-local limit 0 0 (start goal) [] (start-follows t goal) z
+  run-local goal limit z = from-local limit noCounts (start goal) [] (start-follows t goal) z
 
 -- from where it ends there is no transition
 pub local-final : (t : Table) (σ τ : Local) → σ .U ≡ [] → σ .G ≡ [] → LocalStep t σ τ → ⊥

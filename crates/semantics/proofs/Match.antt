@@ -89,7 +89,8 @@ Matched Q b (some c) = Extends Q b c
 
 -- ---- one slot
 
-test-matched : (Q : Binding → Type 0) (b : Binding) (x : Bool) → Sized b → (x ≡ true → Q b) → ((η : Binding) → PartOf b η → Q η → x ≡ true) → Matched Q b (boundIf x b)
+test-matched : (Q : Binding → Type 0) (b : Binding) (x : Bool) → Sized b → (x ≡ true → Q b) → ((η : Binding) → PartOf b η → Q η → x ≡ true)
+    → Matched Q b (boundIf x b)
 test-matched Q b true k is must = record { sized = k; part = part-refl b; fits = is refl; least = λ η p q. p }
 test-matched Q b false k is must = λ η p q. never (sym (must η p q))
 
@@ -121,7 +122,8 @@ variable-matched b v z k = go (ltb v 16) (getD (b .bound) v false) refl refl
         at w x e true o = absurd (let f = ap (variableValue b) (eqb-true w v o) in let g : _≡_ {A = ℕ} 0 1 = cc in omega arith)
         at w x e false o = with-other b v z w (eqb-false w v o) ∙ e
 
-        back : (η : Binding) → PartOf b η → variableValue η v ≡ Number z → (w : ℕ) (x : ℤ) → variableValue (withVariable b v z) w ≡ Number x → (o : Bool) → eqb w v ≡ o → variableValue η w ≡ Number x
+        back : (η : Binding) → PartOf b η → variableValue η v ≡ Number z → (w : ℕ) (x : ℤ) → variableValue (withVariable b v z) w ≡ Number x → (o : Bool)
+            → eqb w v ≡ o → variableValue η w ≡ Number x
         back η h q w x e true o =
             let f = eqb-true w v o in
             ap (variableValue η) f ∙ q ∙ sym (with-same b v z k p) ∙ ap (variableValue (withVariable b v z)) (sym f) ∙ e
@@ -172,7 +174,8 @@ slots-matched [] zs b k = record { sized = k; part = part-refl b; fits = tt; lea
 slots-matched (s ∷ ss) [] b k = record { sized = k; part = part-refl b; fits = tt; least = λ η p q. p }
 slots-matched (s ∷ ss) (z ∷ zs) b k = go (matchSlot s z b) (slot-matched s z b k) (λ c l. slots-matched ss zs c l)
   where
-    both : (c : Binding) → Extends (λ η. SlotIs η s z) b c → (o : Option Binding) → Matched (λ η. SlotsAre η ss zs) c o → Matched (λ η. SlotsAre η (s ∷ ss) (z ∷ zs)) b o
+    both : (c : Binding) → Extends (λ η. SlotIs η s z) b c → (o : Option Binding) → Matched (λ η. SlotsAre η ss zs) c o
+        → Matched (λ η. SlotsAre η (s ∷ ss) (z ∷ zs)) b o
     both c u none w = λ η p q. w η (u .least η p (q .0)) (q .1)
     both c u (some d) w = record {
       sized = w .sized;
@@ -207,14 +210,18 @@ guards-by b c [] u = refl
 guards-by b c (g ∷ gs) u = go (comparisonValue b g) (comparisonValue c g) (u .0) (guards-by b c gs (u .1))
   where
     same : (x : Truth) → guardValue b gs ≡ guardValue c gs
-        → _≡_ {A = Truth} (elim x [ True ↦ guardValue b gs | False ↦ False | Unknown ↦ Unknown ]) (elim x [ True ↦ guardValue c gs | False ↦ False | Unknown ↦ Unknown ])
+        → _≡_ {A = Truth} (elim x [ True ↦ guardValue b gs | False ↦ False | Unknown ↦ Unknown ])
+        (elim x [ True ↦ guardValue c gs | False ↦ False | Unknown ↦ Unknown ])
     same True e = e
     same False e = refl
     same Unknown e = refl
 
     go : (x y : Truth) → x ≡ y → guardValue b gs ≡ guardValue c gs
-        → _≡_ {A = Truth} (elim x [ True ↦ guardValue b gs | False ↦ False | Unknown ↦ Unknown ]) (elim y [ True ↦ guardValue c gs | False ↦ False | Unknown ↦ Unknown ])
-    go x y e ih = subst (λ (w : Truth). _≡_ {A = Truth} (elim x [ True ↦ guardValue b gs | False ↦ False | Unknown ↦ Unknown ]) (elim w [ True ↦ guardValue c gs | False ↦ False | Unknown ↦ Unknown ])) e (same x ih)
+        → _≡_ {A = Truth} (elim x [ True ↦ guardValue b gs | False ↦ False | Unknown ↦ Unknown ])
+        (elim y [ True ↦ guardValue c gs | False ↦ False | Unknown ↦ Unknown ])
+    go x y e ih =
+        subst (λ (w : Truth). _≡_ {A = Truth} (elim x [ True ↦ guardValue b gs | False ↦ False | Unknown ↦ Unknown ])
+        (elim w [ True ↦ guardValue c gs | False ↦ False | Unknown ↦ Unknown ])) e (same x ih)
 
 -- two bindings, each part of the other, give a guard the same value
 

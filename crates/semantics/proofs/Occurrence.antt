@@ -46,7 +46,8 @@ index-id [] n s e = absurd (let w : _≡_ {A = ℕ} 0 1 = cc in omega arith)
 index-id (x ∷ ss) zero s e = let q : x ≡ s = cc in ap (λ (y : Stored). some (y .id)) q
 index-id (x ∷ ss) (suc n) s e = index-id ss n s e
 
-index-head : (θ : Binding) (hs : List Head) (ss : List Stored) (n : ℕ) (s : Stored) → HeadsAre θ hs ss → getElem? ss n ≡ some s → HeadIs θ (getD hs n noHead) (s .fact)
+index-head : (θ : Binding) (hs : List Head) (ss : List Stored) (n : ℕ) (s : Stored) → HeadsAre θ hs ss → getElem? ss n ≡ some s
+    → HeadIs θ (getD hs n noHead) (s .fact)
 index-head θ [] [] n s m e = absurd (let w : _≡_ {A = ℕ} 0 1 = cc in omega arith)
 index-head θ [] (x ∷ ss) n s m e = absurd m
 index-head θ (h ∷ hs) [] n s m e = absurd m
@@ -73,7 +74,8 @@ unfolding storedFact
 stored-some x i [] m e n = List·Memᴰ·not-nil m
 stored-some x i (s ∷ ss) m e n = go (sameId (s .id) i) refl (List·Memᴰ·cases-cons m) n (λ m q. stored-some x i ss m e q)
   where
-    go : (b : Bool) → sameId (s .id) i ≡ b → (x ≡ s) ⊎ List·Memᴰ x ss → factIf b (s .fact) (storedFact i ss) ≡ none → (List·Memᴰ x ss → storedFact i ss ≡ none → ⊥) → ⊥
+    go : (b : Bool) → sameId (s .id) i ≡ b → (x ≡ s) ⊎ List·Memᴰ x ss → factIf b (s .fact) (storedFact i ss) ≡ none
+        → (List·Memᴰ x ss → storedFact i ss ≡ none → ⊥) → ⊥
     go true q c n ih = let w : _≡_ {A = ℕ} 0 1 = cc in omega arith
     go false q (inl c) n ih = eqb-false (s .id .0) (i .0) q (sym (ap (λ (z : Stored). z .id .0) c) ∙ e)
     go false q (inr c) n ih = ih c n
@@ -97,10 +99,12 @@ module _ (store : List Stored) (history : List Fired) (p : HeadPlace) (r : Rule)
   fill-heads (h ∷ hs) chosen [] f = f
   fill-heads (h ∷ hs) chosen (s ∷ ss) f = (f .0, fill-heads hs (chosen ++ (s .id ∷ [])) ss (f .3))
 
-  fill-here : (n : ℕ) (hs : List Head) (chosen : List FactId) (ss : List Stored) → n < length hs → length chosen + n ≡ p .head → Fill store history p r own θ hs chosen ss → getElem? ss n ≡ some own
+  fill-here : (n : ℕ) (hs : List Head) (chosen : List FactId) (ss : List Stored) → n < length hs → length chosen + n ≡ p .head
+      → Fill store history p r own θ hs chosen ss → getElem? ss n ≡ some own
   fill-here n [] chosen ss l e f = absurd (omega arith)
   fill-here n (h ∷ hs) chosen [] l e f = absurd f
-  fill-here zero (h ∷ hs) chosen (s ∷ ss) l e f = ap some (subst (λ (x : Bool). At store history p r own x chosen s) (eq-eqb (length chosen) (p .head) (omega arith)) (f .2))
+  fill-here zero (h ∷ hs) chosen (s ∷ ss) l e f =
+      ap some (subst (λ (x : Bool). At store history p r own x chosen s) (eq-eqb (length chosen) (p .head) (omega arith)) (f .2))
   fill-here (suc n) (h ∷ hs) chosen (s ∷ ss) l e f = fill-here n hs (chosen ++ (s .id ∷ [])) ss (omega arith) (omega (arith, length-snoc chosen (s .id))) (f .3)
 
   abbrev NotIn : List FactId → Stored → Type 0
@@ -119,31 +123,41 @@ module _ (store : List Stored) (history : List Fired) (p : HeadPlace) (r : Rule)
   fill-distinct [] chosen (s ∷ ss) a f = absurd f
   fill-distinct (h ∷ hs) chosen [] a f = absurd f
   fill-distinct (h ∷ hs) chosen (s ∷ ss) a f =
-      let ih = fill-distinct hs (chosen ++ (s .id ∷ [])) ss (λ l. apart (eqb (length chosen) (p .head)) refl (f .2) (omega (arith, l, length-snoc chosen (s .id)))) (f .3) in (
+      let ih
+      = fill-distinct hs (chosen ++ (s .id ∷ [])) ss (λ l. apart (eqb (length chosen) (p .head)) refl (f .2) (omega (arith, l, length-snoc chosen (s .id))))
+      (f .3) in (
         (every-weaken (NotIn (chosen ++ (s .id ∷ []))) (Differs s) (λ x n. differs x (sym (among-snoc (x .id) (s .id) chosen) ∙ n)) ss (ih .1), ih .0),
         (
           new (eqb (length chosen) (p .head)) refl (f .2),
-          every-weaken (NotIn (chosen ++ (s .id ∷ []))) (NotIn chosen) (λ x n. or-false-left (isAmong (x .id) chosen) (sameId (x .id) (s .id) || false) (sym (among-snoc (x .id) (s .id) chosen) ∙ n)) ss (ih .1),
+          every-weaken (NotIn (chosen ++ (s .id ∷ []))) (NotIn chosen)
+              (λ x n. or-false-left (isAmong (x .id) chosen) (sameId (x .id) (s .id) || false) (sym (among-snoc (x .id) (s .id) chosen) ∙ n)) ss (ih .1),
         ),
       )
     where
       differs : (x : Stored) → (isAmong (x .id) chosen || (sameId (x .id) (s .id) || false)) ≡ false → Differs s x
-      differs x n e = eqb-false (x .id .0) (s .id .0) (or-none (sameId (x .id) (s .id)) (or-false-right (isAmong (x .id) chosen) (sameId (x .id) (s .id) || false) n)) (sym e)
+      differs x n e =
+          eqb-false (x .id .0) (s .id .0) (or-none (sameId (x .id) (s .id)) (or-false-right (isAmong (x .id) chosen) (sameId (x .id) (s .id) || false) n))
+          (sym e)
 
       new : (x : Bool) → eqb (length chosen) (p .head) ≡ x → At store history p r own (eqb (length chosen) (p .head)) chosen s → NotIn chosen s
-      new true e q = let o : s ≡ own = subst (λ (x : Bool). At store history p r own x chosen s) e q in rw o (a (omega (arith, eqb-true (length chosen) (p .head) e)))
+      new true e q =
+          let o : s ≡ own = subst (λ (x : Bool). At store history p r own x chosen s) e q in
+          rw o (a (omega (arith, eqb-true (length chosen) (p .head) e)))
       new false e q = stands-anew (own .id) chosen (s .id) (subst (λ (x : Bool). At store history p r own x chosen s) e q)
 
-      apart : (x : Bool) → eqb (length chosen) (p .head) ≡ x → At store history p r own (eqb (length chosen) (p .head)) chosen s → suc (length chosen) ≤ p .head → NotIn (chosen ++ (s .id ∷ [])) own
+      apart : (x : Bool) → eqb (length chosen) (p .head) ≡ x → At store history p r own (eqb (length chosen) (p .head)) chosen s
+          → suc (length chosen) ≤ p .head → NotIn (chosen ++ (s .id ∷ [])) own
       apart true e q l = absurd (omega (arith, eqb-true (length chosen) (p .head) e))
       apart false e q l =
           let o = stands-other (own .id) chosen (s .id) (subst (λ (x : Bool). At store history p r own x chosen s) e q) in
           among-snoc (own .id) (s .id) chosen ∙ or-both (isAmong (own .id) chosen) (sameId (own .id) (s .id) || false) (a (omega arith))
-          (or-both (sameId (own .id) (s .id)) false (ne-eqb (own .id .0) (s .id .0) (λ (q : own .id .0 ≡ s .id .0). eqb-false (s .id .0) (own .id .0) o (sym q))) refl)
+          (or-both (sameId (own .id) (s .id)) false
+          (ne-eqb (own .id .0) (s .id .0) (λ (q : own .id .0 ≡ s .id .0). eqb-false (s .id .0) (own .id .0) o (sym q))) refl)
 
   -- ---- and back
 
-  instance-fill : (hs : List Head) (chosen : List FactId) (ss : List Stored) → HeadsAre θ hs ss → every (λ s. List·Memᴰ s store) ss → Distinct ss → every (NotIn chosen) ss
+  instance-fill : (hs : List Head) (chosen : List FactId) (ss : List Stored) → HeadsAre θ hs ss → every (λ s. List·Memᴰ s store) ss → Distinct ss
+      → every (NotIn chosen) ss
       → ((n : ℕ) → length chosen + n ≡ p .head → getElem? ss n ≡ some own) → (p .head < length chosen → isAmong (own .id) chosen ≡ true)
       → Fill store history p r own θ hs chosen ss
   instance-fill [] chosen [] m s d n here past = tt
@@ -173,10 +187,12 @@ module _ (store : List Stored) (history : List Fired) (p : HeadPlace) (r : Rule)
       first : length chosen ≡ p .head → x ≡ own
       first e = let q = here 0 (omega arith) in cc
 
-      later : (b : Bool) → eqb (length chosen) (p .head) ≡ b → p .head < suc (length chosen) → (isAmong (own .id) chosen || (sameId (own .id) (x .id) || false)) ≡ true
+      later : (b : Bool) → eqb (length chosen) (p .head) ≡ b → p .head < suc (length chosen)
+          → (isAmong (own .id) chosen || (sameId (own .id) (x .id) || false)) ≡ true
       later true e l =
           or-true (isAmong (own .id) chosen) (sameId (own .id) (x .id) || false)
-          (or-left (sameId (own .id) (x .id)) false (eq-eqb (own .id .0) (x .id .0) (ap (λ (z : Stored). z .id .0) (sym (first (eqb-true (length chosen) (p .head) e))))))
+          (or-left (sameId (own .id) (x .id)) false
+          (eq-eqb (own .id .0) (x .id .0) (ap (λ (z : Stored). z .id .0) (sym (first (eqb-true (length chosen) (p .head) e))))))
       later false e l = or-left (isAmong (own .id) chosen) (sameId (own .id) (x .id) || false) (past (omega (arith, eqb-false (length chosen) (p .head) e)))
 
       other : (b : Bool) → ltb (length chosen) (p .head) ≡ b → (length chosen ≡ p .head → ⊥) → x .id .0 ≡ own .id .0 → ⊥
@@ -196,16 +212,19 @@ module _ (store : List Stored) (history : List Fired) (p : HeadPlace) (r : Rule)
       at true e = subst (λ (b : Bool). At store history p r own b chosen x) (sym e) (first (eqb-true (length chosen) (p .head) e))
       at false e =
           subst (λ (b : Bool). At store history p r own b chosen x) (sym e)
-          (may-stand (own .id) chosen (x .id) (ne-eqb (x .id .0) (own .id .0) (λ (q : x .id .0 ≡ own .id .0). other (ltb (length chosen) (p .head)) refl (eqb-false (length chosen) (p .head) e) q)) (n .0))
+          (may-stand (own .id) chosen (x .id) (ne-eqb (x .id .0) (own .id .0)
+          (λ (q : x .id .0 ≡ own .id .0). other (ltb (length chosen) (p .head)) refl (eqb-false (length chosen) (p .head) e) q)) (n .0))
 
 -- ---- the search at an occurrence
 
-module _ (store : List Stored) (history : List Fired) (p : HeadPlace) (r : Rule) (hi : ℕ) (rising : Rising 1 hi store) (inside : p .head < length (heads r)) where
+module _ (store : List Stored) (history : List Fired) (p : HeadPlace) (r : Rule) (hi : ℕ) (rising : Rising 1 hi store)
+    (inside : p .head < length (heads r)) where
   -- the active fact of an instance is the stored one of its identifier
   instance-own : (own : Stored) → List·Memᴰ own store → (ss : List Stored) (θ : Binding) → Matching store p r (own .id) ss θ → getElem? ss (p .head) ≡ some own
   instance-own own mine ss θ c =
       let f = index-fact ss (p .head) (own .id) (c .here) in
-      f .1 ∙ ap some (same-stored 1 hi store (f .0) own rising (every-mem (λ s. List·Memᴰ s store) ss (c .stored) (f .0) (index-mem ss (p .head) (f .0) (f .1))) mine (ap (λ (i : FactId). i .0) (f .2)))
+      f .1 ∙ ap some (same-stored 1 hi store (f .0) own rising
+      (every-mem (λ s. List·Memᴰ s store) ss (c .stored) (f .0) (index-mem ss (p .head) (f .0) (f .1))) mine (ap (λ (i : FactId). i .0) (f .2)))
 
   module _ (own : Stored) (mine : List·Memᴰ own store) (b : Binding) (u : Extends (λ η. HeadIs η (getD (heads r) (p .head) noHead) (own .fact)) unbound b) where
     instance-way : (ss : List Stored) (θ : Binding) → Matching store p r (own .id) ss θ → Completion store history p r own (heads r) [] b ss θ
@@ -244,15 +263,21 @@ module _ (store : List Stored) (history : List Fired) (p : HeadPlace) (r : Rule)
   first-verdict i = go (storedFact i store) refl (stored-is i store)
     where
       matches : (f : Fact) → List·Memᴰ (record { id = i; fact = f }) store → (o : Option Binding)
-          → Matched (λ η. HeadIs η (getD (heads r) (p .head) noHead) f) unbound o → Verdict history p r (Matching store p r i) [] (fromActive store history p r i o)
-      matches f m none u = λ ss θ c. absurd (u θ (unbound-part θ) (index-head θ (heads r) ss (p .head) (record { id = i; fact = f }) (c .matched) (instance-own (record { id = i; fact = f }) m ss θ c)))
+          → Matched (λ η. HeadIs η (getD (heads r) (p .head) noHead) f) unbound o
+          → Verdict history p r (Matching store p r i) [] (fromActive store history p r i o)
+      matches f m none u =
+          λ ss θ c. absurd (u θ (unbound-part θ)
+          (index-head θ (heads r) ss (p .head) (record { id = i; fact = f }) (c .matched) (instance-own (record { id = i; fact = f }) m ss θ c)))
       matches f m (some b) u =
           let own : Stored = record { id = i; fact = f } in
           verdict-same history p r (Completion store history p r own (heads r) [] b) (Matching store p r i) (way-instance own m b u) (instance-way own m b u) []
           (search store history p r i (heads r) [] b) (search-verdict store history p r own m hi rising (heads r) [] b (u .sized) (u .fits) refl)
 
-      go : (o : Option Fact) → storedFact i store ≡ o → OptionIs (λ f. List·Memᴰ (record { id = i; fact = f }) store) o → Verdict history p r (Matching store p r i) [] (withActive store history p r i o)
+      go : (o : Option Fact) → storedFact i store ≡ o → OptionIs (λ f. List·Memᴰ (record { id = i; fact = f }) store) o
+          → Verdict history p r (Matching store p r i) [] (withActive store history p r i o)
       go none e m = λ ss θ c.
           let f = index-fact ss (p .head) i (c .here) in
-          absurd (stored-some (f .0) i store (every-mem (λ s. List·Memᴰ s store) ss (c .stored) (f .0) (index-mem ss (p .head) (f .0) (f .1))) (ap (λ (j : FactId). j .0) (f .2)) e)
-      go (some f) e m = matches f m (matchHead (getD (heads r) (p .head) noHead) f unbound) (head-matched (getD (heads r) (p .head) noHead) f unbound unbound-sized)
+          absurd (stored-some (f .0) i store (every-mem (λ s. List·Memᴰ s store) ss (c .stored) (f .0) (index-mem ss (p .head) (f .0) (f .1)))
+          (ap (λ (j : FactId). j .0) (f .2)) e)
+      go (some f) e m =
+          matches f m (matchHead (getD (heads r) (p .head) noHead) f unbound) (head-matched (getD (heads r) (p .head) noHead) f unbound unbound-sized)

@@ -8,9 +8,10 @@ use mathlib.Core.Path.{_≡_, refl, sym, _∙_, ap, subst}
 use mathlib.Core.Bool.{Bool, true, false}
 use mathlib.Core.Option.{Option, none, some}
 use mathlib.Core.Logic.{_⊎_, inl, inr}
-use mathlib.Core.List.{List, [], _∷_, _++_, map, List·Memᴰ, List·Memᴰ·head, List·Memᴰ·tail, List·Memᴰ·cases-cons, List·Memᴰ·append-cases, List·Memᴰ·eq-of-singleton, Memᴰ·append-left, Memᴰ·append-right}
+use mathlib.Core.List.{List, [], _∷_, _++_, map, List·Memᴰ, List·Memᴰ·head, List·Memᴰ·tail, List·Memᴰ·cases-cons, List·Memᴰ·append-cases}
+use mathlib.Core.List.{List·Memᴰ·eq-of-singleton, Memᴰ·append-left, Memᴰ·append-right}
 use lib.Dec.{leb, ltb}
-use lib.ListN.{length, getElem?}
+use lib.ListN.{length, drop, getElem?}
 use borrow.Author.Tests.{leb-true, leb-false}
 use Rattle.numbers.specs.declared.Truth.{Truth}
 use Rattle.numbers.specs.declared.Truth.the-variants.{True, Undefined as Unknown}
@@ -25,11 +26,13 @@ use Rattle.model.specs.declared.Entry.{Entry}
 use Rattle.model.specs.declared.Stored.{Stored}
 use Rattle.model.specs.declared.Binding.{Binding}
 use Rattle.model.specs.declared.HeadPlace.{HeadPlace}
-use Rattle.model.specs.Limits.{mostHeads, storeRoom, stackRoom, historyRoom}
+use Rattle.model.specs.Limits.{mostHeads, storeRoom, stackRoom}
 use Rattle.model.specs.Table.{Rule, Table, heads, ruleAt, places}
 use Rattle.model.specs.Search.{Fired, firedOf, inHistory, Found, nothing, undefinedGuard, applies, firstInstance}
-use Rattle.model.specs.Steps.{State, waiting, start, activeEntry, bodyEntries, gone, without, remembered, activated, advanced, dropped, popIf, isRemoved, fired, Outcome, moves, fires, fails, stops, withinHistory, withinStack, withBody, withFound, atPlace, activate, stepItem}
-use Rattle.model.specs.Keeping.{keptAll, keepFired, keepWithin, keepBody, keepFound, keepPlace, keepItem}
+use Rattle.model.specs.Steps.{State, waiting, start, activeEntry, bodyEntries, gone, without, Memory, prunes, activated, advanced, dropped, popIf}
+use Rattle.model.specs.Steps.{isRemoved, fired, Outcome, moves, fires, fails, stops, withinHistory, withinStack, withBody, withFound, atPlace}
+use Rattle.model.specs.Steps.{activate, stepWith, stepItem}
+use Rattle.model.specs.Keeping.{keepsAll}
 use Rattle.model.proofs.Every.{every, every-append}
 use Rattle.model.proofs.Lists.{every-mem, map-drop, OptionIs}
 use Rattle.model.proofs.Sound.{idsOf}
@@ -40,7 +43,8 @@ use Rattle.semantics.specs.Refined.{Trying, Applies, Fires, Solve}
 use Rattle.semantics.specs.Chosen.{First, Moves, activates, drops, defaults, FiresFirst, simplifies, propagates, Undefined}
 use Rattle.semantics.proofs.Found.{Picked, Verdict}
 use Rattle.semantics.proofs.Occurrence.{index-mem, first-verdict}
-use Rattle.semantics.proofs.Following.{ItemIs, EntryIs, Follows, known-here, known-there, now, after, store-behind, rising-behind, new-whole, Behind, pruned-behind, kept-behind, body-entries, activated-follows, dropped-follows, advanced-follows}
+use Rattle.semantics.proofs.Following.{ItemIs, EntryIs, Follows, known-here, known-there, now, store-behind, rising-behind, new-whole, Behind}
+use Rattle.semantics.proofs.Following.{pruned-behind, kept-behind, body-entries, activated-follows, dropped-follows, advanced-follows}
 
 -- a rule has at most four heads
 abbrev pub FewHeads : Table → Type 0
@@ -70,9 +74,15 @@ module _ (t : Table) (few : FewHeads t) (st : State) (T : List Fired) (k : Follo
   entries : every (EntryIs (st .next)) (e ∷ es)
   entries = subst (every (EntryIs (st .next))) q (k .entries)
 
+  -- a history that accounts for each firing that it may have behind it
+  abbrev Recalls : Memory → Type 0
+  Recalls m = (p : HeadPlace) (i : FactId) (facts : List Stored) (b : Binding) (w : Matching (st .store) p (ruleAt t (p .rule)) i facts b)
+      → Behind t st T k p i facts b w
+      (m .after (ruleAt t (p .rule) .removed) (firedOf (p .rule) (idsOf facts)) (idsOf (drop (length (ruleAt t (p .rule) .kept)) facts)) (st .history))
+
   -- ---- Activate
 
-  activate-taken : (f : Fact) → e .item ≡ Waiting f → (x : Bool) → Taken t st T (activate t st e es f x)
+  activate-taken : (f : Fact) → e .item ≡ Waiting f → (x : Bool) → Taken t st T (activate st e es f x)
   unfolding activated
   activate-taken f w true =
       let s : e .symbol ≡ f .symbol = subst (ItemIs (st .next) (e .symbol)) w (entries .0) in (
@@ -89,11 +99,13 @@ module _ (t : Table) (few : FewHeads t) (st : State) (T : List Fired) (k : Follo
         }),
       )
     where
-      turn : (x : Stored) → List·Memᴰ x (st .store) ⊎ List·Memᴰ x (record { id = record { 0 = st .next }; fact = f } ∷ []) → List·Memᴰ x (record { id = record { 0 = st .next }; fact = f } ∷ st .store)
+      turn : (x : Stored) → List·Memᴰ x (st .store) ⊎ List·Memᴰ x (record { id = record { 0 = st .next }; fact = f } ∷ [])
+          → List·Memᴰ x (record { id = record { 0 = st .next }; fact = f } ∷ st .store)
       turn x (inl m) = List·Memᴰ·tail m
       turn x (inr m) = List·Memᴰ·head (List·Memᴰ·eq-of-singleton m)
 
-      back : (x : Stored) → (x ≡ record { id = record { 0 = st .next }; fact = f }) ⊎ List·Memᴰ x (st .store) → List·Memᴰ x (st .store ++ (record { id = record { 0 = st .next }; fact = f } ∷ []))
+      back : (x : Stored) → (x ≡ record { id = record { 0 = st .next }; fact = f }) ⊎ List·Memᴰ x (st .store)
+          → List·Memᴰ x (st .store ++ (record { id = record { 0 = st .next }; fact = f } ∷ []))
       back x (inl m) = Memᴰ·append-right (st .store) (List·Memᴰ·head m)
       back x (inr m) = Memᴰ·append-left (record { id = record { 0 = st .next }; fact = f } ∷ []) m
   activate-taken f w false = (omega arith, λ x. absurd (omega (arith, x)))
@@ -128,14 +140,16 @@ module _ (t : Table) (few : FewHeads t) (st : State) (T : List Fired) (k : Follo
       Way = Matching (st .store) p r i
 
       -- what is not in T is not in the definition's history, and the other way round
-      unknown-here : (facts : List Stored) (θ : Binding) → Way facts θ → (List·Memᴰ (firing p facts) T → ⊥) → inHistory (firedOf (p .rule) (idsOf facts)) (st .history) ≡ false
+      unknown-here : (facts : List Stored) (θ : Binding) → Way facts θ → (List·Memᴰ (firing p facts) T → ⊥)
+          → inHistory (firedOf (p .rule) (idsOf facts)) (st .history) ≡ false
       unknown-here facts θ m n = go (inHistory (firedOf (p .rule) (idsOf facts)) (st .history)) refl
         where
           go : (x : Bool) → inHistory (firedOf (p .rule) (idsOf facts)) (st .history) ≡ x → inHistory (firedOf (p .rule) (idsOf facts)) (st .history) ≡ false
           go true h = absurd (n (known-there t st T k p i facts θ m few-here h))
           go false h = h
 
-      unknown-there : (facts : List Stored) (θ : Binding) → Way facts θ → inHistory (firedOf (p .rule) (idsOf facts)) (st .history) ≡ false → List·Memᴰ (firing p facts) T → ⊥
+      unknown-there : (facts : List Stored) (θ : Binding) → Way facts θ → inHistory (firedOf (p .rule) (idsOf facts)) (st .history) ≡ false
+          → List·Memᴰ (firing p facts) T → ⊥
       unknown-there facts θ m h n = let g = known-here t st T k p i facts θ m n in let w : _≡_ {A = ℕ} 0 1 = cc in omega arith
 
       -- what the search picks is the first
@@ -179,7 +193,8 @@ module _ (t : Table) (few : FewHeads t) (st : State) (T : List Fired) (k : Follo
       )
 
       -- Simplify and Propagate
-      module _ (facts : List Stored) (b : Binding) (u : Picked (st .history) p r Way [] True facts b) (C : List Entry) (body : bodyEntries b (r .body) ≡ some C) where
+      module _ (facts : List Stored) (b : Binding) (u : Picked (st .history) p r Way [] True facts b) (C : List Entry)
+          (body : bodyEntries b (r .body) ≡ some C) where
         C-entries : every (EntryIs (st .next)) C
         C-entries = subst (OptionIs (every (EntryIs (st .next)))) body (body-entries (st .next) b (r .body))
 
@@ -241,79 +256,58 @@ module _ (t : Table) (few : FewHeads t) (st : State) (T : List Fired) (k : Follo
             }) first,
           )
 
+      -- with a history that accounts for the firing
+      module _ (m : Memory) (recalls : Recalls m) where
         -- the definition takes the identifiers of the removed heads from those of all heads
-        fired-taken : Taken t st T (fires (fired st e es p r (idsOf facts) C))
+        fired-taken : (facts : List Stored) (b : Binding) → Picked (st .history) p r Way [] True facts b → (C : List Entry)
+            → bodyEntries b (r .body) ≡ some C → Taken t st T (fires (fired m st e es p r (idsOf facts) C))
         unfolding fired gone
-        fired-taken =
+        fired-taken facts b u C h =
+            let f : Fired = firedOf (p .rule) (idsOf facts) in
+            let H : List FactId = idsOf (drop (length (r .kept)) facts) in
             subst
             (λ (g : List FactId). Taken t st T (fires (record {
               stack = C ++ popIf (isRemoved r (p .head)) e es;
               store = without g (st .store);
-              history = remembered (r .removed) (firedOf (p .rule) (idsOf facts)) g (st .history);
+              history = m .after (r .removed) f g (st .history);
               next = st .next;
             })))
-            (map-drop (λ (s : Stored). s .id) (length (r .kept)) facts) (fires-taken (after t st T k p i facts b (u .way) (r .removed)) (pruned-behind t st T k p i facts b (u .way) (r .removed) refl) (isRemoved r (p .head)) refl)
+            (map-drop (λ (s : Stored). s .id) (length (r .kept)) facts)
+            (fires-taken facts b u C h (m .after (r .removed) f H (st .history)) (recalls p i facts b (u .way)) (isRemoved r (p .head)) refl)
 
-        kept-taken : Taken t st T (fires (keepFired st e es p r (idsOf facts) C))
-        unfolding keepFired gone
-        kept-taken =
-            let all : List Fired = keptAll (r .removed) (firedOf (p .rule) (idsOf facts)) (st .history) in
-            subst
-            (λ (g : List FactId). Taken t st T (fires (record { stack = C ++ popIf (isRemoved r (p .head)) e es; store = without g (st .store); history = all; next = st .next })))
-            (map-drop (λ (s : Stored). s .id) (length (r .kept)) facts) (fires-taken all (kept-behind t st T k p i facts b (u .way) (r .removed) refl) (isRemoved r (p .head)) refl)
+        within-history : (x : Bool) (n : RuleNumber) (s : State) → Taken t st T (fires s) → Taken t st T (withinHistory x n s)
+        within-history true n s u = u
+        within-history false n s u = (omega arith, λ x. absurd (omega (arith, x)))
 
-      within-history : (x : Bool) (n : RuleNumber) (s : State) → Taken t st T (fires s) → Taken t st T (withinHistory x n s)
-      within-history true n s u = u
-      within-history false n s u = (omega arith, λ x. absurd (omega (arith, x)))
+        within-stack : (x : Bool) (n : RuleNumber) (s : State) → Taken t st T (fires s) → Taken t st T (withinStack m x n s)
+        within-stack true n s u = within-history (m .fits (s .history)) n s u
+        within-stack false n s u = (omega arith, λ x. absurd (omega (arith, x)))
 
-      within-stack : (x : Bool) (n : RuleNumber) (s : State) → Taken t st T (fires s) → Taken t st T (withinStack x n s)
-      within-stack true n s u = within-history (leb (length (s .history)) historyRoom) n s u
-      within-stack false n s u = (omega arith, λ x. absurd (omega (arith, x)))
+        body-taken : (facts : List Stored) (b : Binding) → Picked (st .history) p r Way [] True facts b → (c : Option (List Entry))
+            → bodyEntries b (r .body) ≡ c → Taken t st T (withBody m t st e es p (idsOf facts) c)
+        body-taken facts b u none h = (omega arith, λ x. absurd (omega (arith, x)))
+        body-taken facts b u (some C) h =
+            let s : State = fired m st e es p r (idsOf facts) C in
+            within-stack (leb (length (s .stack)) stackRoom) (p .rule) s (fired-taken facts b u C h)
 
-      body-taken : (facts : List Stored) (b : Binding) → Picked (st .history) p r Way [] True facts b → (c : Option (List Entry)) → bodyEntries b (r .body) ≡ c
-          → Taken t st T (withBody t st e es p (idsOf facts) c)
-      body-taken facts b u none h = (omega arith, λ x. absurd (omega (arith, x)))
-      body-taken facts b u (some C) h =
-          let s : State = fired st e es p r (idsOf facts) C in
-          within-stack (leb (length (s .stack)) stackRoom) (p .rule) s (fired-taken facts b u C h)
+        found-taken : (f : Found) → Verdict (st .history) p r Way [] f → Taken t st T (withFound m t st e es i j p f)
+        found-taken nothing u = default-taken u
+        found-taken undefinedGuard u = (omega arith, λ x. stopped u)
+        found-taken (applies chosen b) u =
+            subst (λ (is : List FactId). Taken t st T (withBody m t st e es p is (bodyEntries b (r .body)))) (sym (u .2))
+            (body-taken (u .0) b (u .1) (bodyEntries b (r .body)) refl)
 
-      found-taken : (f : Found) → Verdict (st .history) p r Way [] f → Taken t st T (withFound t st e es i j p f)
-      found-taken nothing u = default-taken u
-      found-taken undefinedGuard u = (omega arith, λ x. stopped u)
-      found-taken (applies chosen b) u =
-          subst (λ (is : List FactId). Taken t st T (withBody t st e es p is (bodyEntries b (r .body)))) (sym (u .2)) (body-taken (u .0) b (u .1) (bodyEntries b (r .body)) refl)
-
-      -- the same with a history that keeps all
-      keep-within : (x : Bool) (n : RuleNumber) (s : State) → Taken t st T (fires s) → Taken t st T (keepWithin x n s)
-      keep-within true n s u = u
-      keep-within false n s u = (omega arith, λ x. absurd (omega (arith, x)))
-
-      keep-body : (facts : List Stored) (b : Binding) → Picked (st .history) p r Way [] True facts b → (c : Option (List Entry)) → bodyEntries b (r .body) ≡ c
-          → Taken t st T (keepBody t st e es p (idsOf facts) c)
-      keep-body facts b u none h = (omega arith, λ x. absurd (omega (arith, x)))
-      keep-body facts b u (some C) h =
-          let s : State = keepFired st e es p r (idsOf facts) C in
-          keep-within (leb (length (s .stack)) stackRoom) (p .rule) s (kept-taken facts b u C h)
-
-      keep-found : (f : Found) → Verdict (st .history) p r Way [] f → Taken t st T (keepFound t st e es i j p f)
-      keep-found nothing u = default-taken u
-      keep-found undefinedGuard u = (omega arith, λ x. stopped u)
-      keep-found (applies chosen b) u =
-          subst (λ (is : List FactId). Taken t st T (keepBody t st e es p is (bodyEntries b (r .body)))) (sym (u .2)) (keep-body (u .0) b (u .1) (bodyEntries b (r .body)) refl)
-
-    place-taken : (o : Option HeadPlace) → getElem? (places t (e .symbol)) (j - 1) ≡ o → Taken t st T (atPlace t st e es i j o)
-    place-taken none o = drop-taken o
-    place-taken (some p) o =
-        found-taken p o (firstInstance (st .store) (st .history) p (ruleAt t (p .rule)) i) (verdict p o)
-
-    keep-place : (o : Option HeadPlace) → getElem? (places t (e .symbol)) (j - 1) ≡ o → Taken t st T (keepPlace t st e es i j o)
-    keep-place none o = drop-taken o
-    keep-place (some p) o = keep-found p o (firstInstance (st .store) (st .history) p (ruleAt t (p .rule)) i) (verdict p o)
+    place-taken : (m : Memory) → Recalls m → (o : Option HeadPlace) → getElem? (places t (e .symbol)) (j - 1) ≡ o → Taken t st T (atPlace m t st e es i j o)
+    place-taken m w none o = drop-taken o
+    place-taken m w (some p) o = found-taken p o m w (firstInstance (st .store) (st .history) p (ruleAt t (p .rule)) i) (verdict p o)
 
   -- ---- the top entry decides
 
   fail-taken : e .item ≡ Fail → Taken t st T fails
-  fail-taken w = (record { stack = es; store = st .store; history = T; next = st .next }, record { c = e; top = q; builtin = w; store = refl; history = refl; next = refl })
+  fail-taken w = (
+    record { stack = es; store = st .store; history = T; next = st .next },
+    record { c = e; top = q; builtin = w; store = refl; history = refl; next = refl },
+  )
 
   module _ (i : FactId) (j : Occurrence) (w : e .item ≡ Active i j) where
     active-top : st .stack ≡ activeEntry (e .symbol) i (j .0) ∷ es
@@ -322,15 +316,16 @@ module _ (t : Table) (few : FewHeads t) (st : State) (T : List Fired) (k : Follo
     active-given : i .0 < st .next
     active-given = subst (ItemIs (st .next) (e .symbol)) w (entries .0)
 
+  item-taken : (m : Memory) → Recalls m → (it : Item) → e .item ≡ it → Taken t st T (stepWith m t st e es it)
+  unfolding stepWith
+  item-taken m r (Waiting f) w = activate-taken f w (ltb (length (st .store)) storeRoom)
+  item-taken m r (Active i j) w =
+      place-taken i (j .0) (active-top i j w) (active-given i j w) m r (getElem? (places t (e .symbol)) (j .0 - 1)) refl
+  item-taken m r Fail w = fail-taken w
+
   pub step-taken : (it : Item) → e .item ≡ it → Taken t st T (stepItem t st e es it)
-  unfolding stepItem
-  step-taken (Waiting f) w = activate-taken f w (ltb (length (st .store)) storeRoom)
-  step-taken (Active i j) w = place-taken i (j .0) (active-top i j w) (active-given i j w) (getElem? (places t (e .symbol)) (j .0 - 1)) refl
-  step-taken Fail w = fail-taken w
+  step-taken = item-taken prunes (λ p i facts b w. pruned-behind t st T k p i facts b w (ruleAt t (p .rule) .removed) refl)
 
   -- every step of the run whose history keeps all is a transition too
-  pub keep-taken : (it : Item) → e .item ≡ it → Taken t st T (keepItem t st e es it)
-  unfolding keepItem
-  keep-taken (Waiting f) w = activate-taken f w (ltb (length (st .store)) storeRoom)
-  keep-taken (Active i j) w = keep-place i (j .0) (active-top i j w) (active-given i j w) (getElem? (places t (e .symbol)) (j .0 - 1)) refl
-  keep-taken Fail w = fail-taken w
+  pub keep-taken : (it : Item) → e .item ≡ it → Taken t st T (stepWith keepsAll t st e es it)
+  keep-taken = item-taken keepsAll (λ p i facts b w. kept-behind t st T k p i facts b w (ruleAt t (p .rule) .removed) refl)

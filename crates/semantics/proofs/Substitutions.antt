@@ -27,13 +27,15 @@ use Rattle.semantics.proofs.Match.{Sized, part-refl, part-trans, unboun
 
 -- ---- the least one
 
-heads-least : (hs : List Head) (ss : List Stored) (b η : Binding) → Sized b → PartOf b η → HeadsAre η hs ss → (c : Binding) × Extends (λ θ. HeadsAre θ hs ss) b c
+heads-least : (hs : List Head) (ss : List Stored) (b η : Binding) → Sized b → PartOf b η → HeadsAre η hs ss
+    → (c : Binding) × Extends (λ θ. HeadsAre θ hs ss) b c
 heads-least [] [] b η k p m = (b, record { sized = k; part = part-refl b; fits = tt; least = λ θ q n. q })
 heads-least [] (s ∷ ss) b η k p m = absurd m
 heads-least (h ∷ hs) [] b η k p m = absurd m
 heads-least (h ∷ hs) (s ∷ ss) b η k p m = go (matchHead h (s .fact) b) (head-matched h (s .fact) b k) (λ c j q. heads-least hs ss c η j q (m .1))
   where
-    go : (o : Option Binding) → Matched (λ θ. HeadIs θ h (s .fact)) b o → ((c : Binding) → Sized c → PartOf c η → (d : Binding) × Extends (λ θ. HeadsAre θ hs ss) c d)
+    go : (o : Option Binding) → Matched (λ θ. HeadIs θ h (s .fact)) b o
+        → ((c : Binding) → Sized c → PartOf c η → (d : Binding) × Extends (λ θ. HeadsAre θ hs ss) c d)
         → (d : Binding) × Extends (λ θ. HeadsAre θ (h ∷ hs) (s ∷ ss)) b d
     go none u ih = absurd (u η p (m .0))
     go (some c) u ih =
@@ -47,7 +49,8 @@ heads-least (h ∷ hs) (s ∷ ss) b η k p m = go (matchHead h (s .fact) b) (hea
           },
         )
 
-pub least-matching : (store : List Stored) (p : HeadPlace) (r : Rule) (i : FactId) (facts : List Stored) (η : Binding) → every (λ s. List·Memᴰ s store) facts → Distinct facts
+pub least-matching : (store : List Stored) (p : HeadPlace) (r : Rule) (i : FactId) (facts : List Stored) (η : Binding)
+    → every (λ s. List·Memᴰ s store) facts → Distinct facts
     → HeadsAre η (heads r) facts → getElem? (idsOf facts) (p .head) ≡ some i → (θ : Binding) × Matching store p r i facts θ
 least-matching store p r i facts η s d m h =
     let c = heads-least (heads r) facts unbound η (record { values = refl; bound = refl }) (unbound-part η) m in
@@ -59,13 +62,15 @@ least-matching store p r i facts η s d m h =
 abbrev pub Stands : List Head → ℕ → Type 0
 Stands hs v = (h : Head) × List·Memᴰ h hs × List·Memᴰ (Variable v) (take 4 (h .slots))
 
-slots-value : (θ : Binding) (v : ℕ) (ss : List Slot) (zs : List ℤ) → SlotsAre θ ss zs → List·Memᴰ (Variable v) (take (length zs) ss) → (z : ℤ) × (variableValue θ v ≡ Number z)
+slots-value : (θ : Binding) (v : ℕ) (ss : List Slot) (zs : List ℤ) → SlotsAre θ ss zs → List·Memᴰ (Variable v) (take (length zs) ss)
+    → (z : ℤ) × (variableValue θ v ≡ Number z)
 slots-value θ v [] [] u m = absurd (List·Memᴰ·not-nil m)
 slots-value θ v [] (z ∷ zs) u m = absurd (List·Memᴰ·not-nil m)
 slots-value θ v (s ∷ ss) [] u m = absurd (List·Memᴰ·not-nil m)
 slots-value θ v (s ∷ ss) (z ∷ zs) u m = go (List·Memᴰ·cases-cons m) (λ m. slots-value θ v ss zs (u .1) m)
   where
-    go : (Variable v ≡ s) ⊎ List·Memᴰ (Variable v) (take (length zs) ss) → (List·Memᴰ (Variable v) (take (length zs) ss) → (y : ℤ) × (variableValue θ v ≡ Number y)) → (y : ℤ) × (variableValue θ v ≡ Number y)
+    go : (Variable v ≡ s) ⊎ List·Memᴰ (Variable v) (take (length zs) ss)
+        → (List·Memᴰ (Variable v) (take (length zs) ss) → (y : ℤ) × (variableValue θ v ≡ Number y)) → (y : ℤ) × (variableValue θ v ≡ Number y)
     go (inl e) ih = (z, subst (λ (x : Slot). SlotIs θ x z) (sym e) (u .0))
     go (inr m) ih = ih m
 
@@ -102,7 +107,8 @@ module _ (hs : List Head) (ss : List Stored) (θ η : Binding) (m : HeadsAre θ 
 
   comparison-any : (g : Guard) → GuardIn hs g → comparisonValue η g ≡ comparisonValue θ g
   unfolding comparisonValue expressionValue
-  comparison-any g u = rw (slot-any (g .left .left) (u .0), slot-any (g .left .right) (u .1), slot-any (g .right .left) (u .2), slot-any (g .right .right) (u .3))
+  comparison-any g u =
+      rw (slot-any (g .left .left) (u .0), slot-any (g .left .right) (u .1), slot-any (g .right .left) (u .2), slot-any (g .right .right) (u .3))
 
   guards-any : (gs : List Guard) → every (GuardIn hs) gs → guardValue η gs ≡ guardValue θ gs
   guards-any gs u = guards-by η θ gs (every-weaken (GuardIn hs) (λ (g : Guard). comparisonValue η g ≡ comparisonValue θ g) comparison-any gs u)

@@ -93,8 +93,10 @@ module _ (t : Table) where
   -- (Suspend) ⟨U; (c#d : i, G); S; H⟩k ↦ ⟨U; (c#d : (i + 1), G); S; H⟩k, where (Remove) and (Keep) do not apply and occurrence i exists
   pub record Suspend (σ τ : Local) : Type 0 where
     pub tried : Trying t (σ .G)
-    pub noRemove : length (ruleTried t tried .kept) ≤ tried .place .head → (facts : List Stored) (φ : Binding) → Enabled t (σ .S) (tried .place) (tried .id) facts φ → ⊥
-    pub noKeep : tried .place .head < length (ruleTried t tried .kept) → (facts : List Stored) (φ : Binding) → Applies t (σ .S) (σ .H) (tried .place) (tried .id) facts φ → ⊥
+    pub noRemove : length (ruleTried t tried .kept) ≤ tried .place .head → (facts : List Stored) (φ : Binding)
+        → Enabled t (σ .S) (tried .place) (tried .id) facts φ → ⊥
+    pub noKeep : tried .place .head < length (ruleTried t tried .kept) → (facts : List Stored) (φ : Binding)
+        → Applies t (σ .S) (σ .H) (tried .place) (tried .id) facts φ → ⊥
     pub U : τ .U ≡ σ .U
     pub G : τ .G ≡ activeEntry (tried .symbol) (tried .id) (suc (tried .j)) ∷ tried .under
     pub S : τ .S ≡ σ .S

@@ -39,7 +39,9 @@ record-grows : (t : List ℕ) (s : Scan) → Grows (s .at) (recordOf t s)
 unfolding recordOf testedOf orderedOf fieldsOf
 record-grows t s = search (stopped, behind-grows) depth 20
 
-by-step : (t : List ℕ) (n : ℕ) (s : Scan) (shapes : List RuleShape) (r : RecordStep) → Grows (s .at) r → length t ≤ suc n + s .at → ((s′ : Scan) (l : List RuleShape) → length t ≤ n + s′ .at → readFrom n t s′ l ≡ readFrom (suc n) t s′ l) → goOn t s shapes (readFrom n t) r ≡ goOn t s shapes (readFrom (suc n) t) r
+by-step : (t : List ℕ) (n : ℕ) (s : Scan) (shapes : List RuleShape) (r : RecordStep) → Grows (s .at) r → length t ≤ suc n + s .at
+    → ((s′ : Scan) (l : List RuleShape) → length t ≤ n + s′ .at → readFrom n t s′ l ≡ readFrom (suc n) t s′ l)
+    → goOn t s shapes (readFrom n t) r ≡ goOn t s shapes (readFrom (suc n) t) r
 unfolding goOn
 by-step t n s shapes (Next s′) g h more = more s′ (noted shapes s′) (omega arith)
 by-step t n s shapes (Stop k p) g h more = refl
@@ -53,4 +55,5 @@ enough (suc n) t s shapes h = by-step t n s shapes (recordOf t s) (record-grows 
 pub any-more : (t : List ℕ) (k : ℕ) → readOf t ≡ readFrom (k + length t) t firstScan noShapes
 unfolding readOf
 any-more t zero = let e : 0 + length t ≡ length t = omega arith in rw e
-any-more t (suc k) = any-more t k ∙ enough (k + length t) t firstScan noShapes (omega arith) ∙ (let e : suc (k + length t) ≡ suc k + length t = omega arith in rw e)
+any-more t (suc k) =
+    any-more t k ∙ enough (k + length t) t firstScan noShapes (omega arith) ∙ (let e : suc (k + length t) ≡ suc k + length t = omega arith in rw e)

@@ -31,6 +31,8 @@ unfolding testedOf orderedOf fieldsOf firstOf testsOf
 in-order t s k = refl
 
 -- the same of the record at an offset, where there is a byte
-pub record-in-order : (t : List ℕ) (s : Scan) → recordOf t s ≡ cond (leb (length t) (s .at)) (Stop 17 (length t)) (firstOf (s .at) (testsOf t s (kindOf (getD t (s .at) 0))) (behind s (kindOf (getD t (s .at) 0))))
+pub record-in-order : (t : List ℕ) (s : Scan)
+    → recordOf t s ≡ cond (leb (length t) (s .at)) (Stop 17 (length t))
+    (firstOf (s .at) (testsOf t s (kindOf (getD t (s .at) 0))) (behind s (kindOf (getD t (s .at) 0))))
 unfolding recordOf testedOf orderedOf fieldsOf firstOf testsOf
 record-in-order t s = refl

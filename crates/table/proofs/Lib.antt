@@ -3,3 +3,5 @@ pub mod Turns
 pub mod InOrder
 pub mod Enough
 pub mod Only
+pub mod Verdicts
+pub mod Counts

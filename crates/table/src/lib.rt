@@ -4,12 +4,13 @@ pub mod record;
 
 ghost use mathlib.Core.Path.{_≡_};
 ghost use Rattle.model.specs.Reading.{firstScan, noShape, ended, reading, readOf};
-ghost use Rattle.model.specs.Calls.{refusal, checkOf};
+ghost use Rattle.model.specs.Calls.{checkOf};
 use model::CallResult;
 use model::Reading;
 use model::RecordStep;
 use model::RuleShape;
 use model::Scan;
+use model::Table;
 use model::Verdict;
 use records::variables;
 
@@ -39,16 +40,16 @@ fn first_scan() -> Scan
 }
 
 // 23: a good end record ends at p.
-fn end(t: &[u8], p: usize) -> Verdict
-    ensures { λ r. ⌜ r ≡ ended (now (t .entry)) p ⌝ }
+fn end(table: &[u8], p: usize) -> Verdict
+    ensures { λ r. ⌜ r ≡ ended (now (table .entry)) p ⌝ }
 {
-    if p < t.len() {
+    if p < table.len() {
         return Verdict::Refused(23, p);
     }
     Verdict::Good
 }
 
-fn reading(verdict: Verdict, s: Scan, shapes: [RuleShape; 64]) -> Reading
+fn reading(verdict: Verdict, s: Scan, shapes: [RuleShape; Table::RULES]) -> Reading
     ensures { λ r. ⌜ r ≡ reading verdict (s .symbols) (s .rules) shapes ⌝ }
 {
     Reading {
@@ -60,24 +61,24 @@ fn reading(verdict: Verdict, s: Scan, shapes: [RuleShape; 64]) -> Reading
 }
 
 // The verdict on a table, how many symbols and rules it has, and where its rules stand: up to the first refused record.
-pub fn read(t: &[u8]) -> Reading
-    ensures { λ r. ⌜ r ≡ readOf (now (t .entry)) ⌝ }
+pub fn read(table: &[u8]) -> Reading
+    ensures { λ r. ⌜ r ≡ readOf (now (table .entry)) ⌝ }
 {
     let none = no_shape();
-    let mut shapes = [none; 64];
+    let mut shapes = [none; Table::RULES];
     let mut s = first_scan();
     let mut named = variables::no_marks();
-    let mut left = t.len();
+    let mut left = table.len();
     while 0 < left {
         left -= 1;
-        match record::read_record(t, s, &named) {
+        match record::read_record(table, s, &named) {
             RecordStep::Next(next) => {
                 let at = s.at;
                 let before = s.shape;
                 s = next;
                 let rules = s.rules as usize;
                 let shape = s.shape;
-                variables::mark(t, at, before, shape, &mut named);
+                variables::mark(table, at, before, shape, &mut named);
                 if 0 < rules {
                     shapes[rules - 1] = shape;
                 }
@@ -86,35 +87,21 @@ pub fn read(t: &[u8]) -> Reading
                 return reading(Verdict::Refused(n, p), s, shapes);
             }
             RecordStep::Done(p) => {
-                return reading(end(t, p), s, shapes);
+                return reading(end(table, p), s, shapes);
             }
         }
     }
-    reading(Verdict::Refused(17, t.len()), s, shapes)
+    reading(Verdict::Refused(17, table.len()), s, shapes)
 }
 
 // "Checking a good table gives six zeros."
-pub fn check(t: &[u8]) -> CallResult
-    ensures { λ r. ⌜ r ≡ checkOf (now (t .entry)) ⌝ }
+pub fn check(table: &[u8]) -> CallResult
+    ensures { λ r. ⌜ r ≡ checkOf (now (table .entry)) ⌝ }
 {
-    let reading = read(t);
+    let reading = read(table);
     let verdict = reading.verdict;
     match verdict {
-        Verdict::Good => refusal(0, 0),
-        Verdict::Refused(n, p) => refusal(n, p as u32),
-    }
-}
-
-// "Numbers 16 and above have all four counts 0."
-pub fn refusal(number: u8, place: u32) -> CallResult
-    ensures { λ r. ⌜ r ≡ refusal number place ⌝ }
-{
-    CallResult {
-        number: number as u32,
-        place: place,
-        steps: 0,
-        firings: 0,
-        identifiers: 0,
-        stored: 0,
+        Verdict::Good => CallResult::refusal(0, 0),
+        Verdict::Refused(n, p) => CallResult::refusal(n, p as u32),
     }
 }

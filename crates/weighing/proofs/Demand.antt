@@ -17,7 +17,8 @@ module _ (t weights g : List ℕ) (r : Weighing) (e : r ≡ weighOf t weights g)
     number = ap (λ (r : Weighing). r .result .number) (sym e) ∙ z
 
     pub every-run : (limit : ℕ) (buffer : List ℕ) → Promise (r .weight) (r .bound) limit (runOf t g limit buffer .result)
-    every-run limit buffer = subst (λ (x : Weighing). Promise (x .weight) (x .bound) limit (runOf t g limit buffer .result)) (sym e) (weighed-run t weights g number limit buffer)
+    every-run limit buffer =
+        subst (λ (x : Weighing). Promise (x .weight) (x .bound) limit (runOf t g limit buffer .result)) (sym e) (weighed-run t weights g number limit buffer)
 
     pub legal : AreBytes weights → Legal r
     legal b = subst Legal (sym e) (legal-bound t weights g b number)

@@ -12,12 +12,13 @@ use lib.ListN.{length, getD, drop, List·getD-eq-default, drop-of-length-le}
 use lib.Seq.{drop-cons}
 use borrow.Author.Tests.{eq-eqb, ne-eqb}
 use Rattle.model.specs.declared.Symbol.{Symbol}
-use Rattle.model.specs.Table.{headAt, headsFrom, isFact, bodyFactAt, itemsFrom}
+use Rattle.model.specs.Table.{headAt, headsFrom, isFact, behindItem, bodyFactAt, itemsFrom}
 use Rattle.model.specs.Goal.{factAt, factsFrom, goalOf}
 use Rattle.model.specs.Weights.{weightIn, headsWeight, bodyWeight, bodyFacts, goalWeight, firstZero}
 use Rattle.model.proofs.Decoded.{heads-first, items-first, item-fact, item-fail, facts-first}
-use Rattle.model.proofs.Good.{behind-fact, behind-fail}
-use Rattle.weighing.specs.Views.{Counted, headsWith}
+use Rattle.records.specs.Geometry.{ItemsLie}
+use Rattle.records.proofs.PartsLie.{first-lies, rest-lies}
+use Rattle.weighing.specs.Views.{Counted, FewHeads, FewItems, headsWith}
 
 -- `sum` is counted and `rest` is left: `left` parts from p on, each of at most `unit` and in at most `step` bytes
 pub record Left (unit step top far whole rest sum p left : ℕ) : Type 0 where
@@ -41,22 +42,30 @@ weight-given weights i h b = record { same = inside weights i h; few = omega ari
 pub weight-missing : (weights : List ℕ) (i : ℕ) → length weights ≤ i → Counted (getD weights i 1) 255 1
 weight-missing weights i h = record { same = sym (List·getD-eq-default weights 1 h); few = omega arith }
 
--- the weights from k on
-pub zero-here : (k : ℕ) (l : List ℕ) → k < length l → getD l k 0 ≡ 0 → some k ≡ firstZero k (drop k l)
-unfolding firstZero
-zero-here k l h e = rw (drop-cons l k 0 h, e)
+-- the weights from i on answer for all
+pub record ZeroLeft (l : List ℕ) (i : ℕ) : Type 0 where
+  pub same : firstZero 0 l ≡ firstZero i (drop i l)
+  pub few : i ≤ length l
 
-pub zero-later : (k : ℕ) (l : List ℕ) → k < length l → (getD l k 0 ≡ 0 → ⊥) → firstZero k (drop k l) ≡ firstZero (k + 1) (drop (k + 1) l)
-unfolding firstZero
-zero-later k l h d = rw (drop-cons l k 0 h, add-one k) (go (getD l k 0) d)
-  where
-    go : (x : ℕ) → (x ≡ 0 → ⊥) → firstZero k (x ∷ drop (suc k) l) ≡ firstZero (suc k) (drop (suc k) l)
-    go zero d = absurd (d refl)
-    go (suc x) d = refl
+pub zero-begins : (l : List ℕ) → ZeroLeft l 0
+zero-begins l = record { same = refl; few = omega arith }
 
-pub zero-never : (k : ℕ) (l : List ℕ) → length l ≤ k → none ≡ firstZero k (drop k l)
-unfolding firstZero
-zero-never k l h = rw (drop-of-length-le l {i = k} h)
+module _ {l : List ℕ} {i : ℕ} (z : ZeroLeft l i) where
+  pub zero-here : i < length l → getD l i 0 ≡ 0 → some i ≡ firstZero 0 l
+  unfolding firstZero
+  zero-here h e = sym (z .same ∙ rw (drop-cons l i 0 h, e))
+
+  pub zero-later : i < length l → (getD l i 0 ≡ 0 → ⊥) → ZeroLeft l (i + 1)
+  unfolding firstZero
+  zero-later h d = record { same = z .same ∙ rw (drop-cons l i 0 h, add-one i) (go (getD l i 0) d); few = omega arith }
+    where
+      go : (x : ℕ) → (x ≡ 0 → ⊥) → firstZero i (x ∷ drop (suc i) l) ≡ firstZero (suc i) (drop (suc i) l)
+      go zero d = absurd (d refl)
+      go (suc x) d = refl
+
+  pub zero-never : length l ≤ i → none ≡ firstZero 0 l
+  unfolding firstZero
+  zero-never h = sym (z .same ∙ rw (drop-of-length-le l {i = i} h))
 
 -- ---- heads
 
@@ -68,6 +77,9 @@ module _ (t : List ℕ) where
     heads-turn : (p n : ℕ) → 0 < n → headsLeft p n ≡ getD weights (getD t (p + 1) 0) 1 + headsLeft (p + 22) (n - 1)
     unfolding headsWeight headAt
     heads-turn p n h = rw (heads-first t p n h)
+
+    pub heads-begin : {p n : ℕ} → FewHeads t p n → Left 255 22 1020 (length t) (headsLeft p n) (headsLeft p n) 0 p n
+    heads-begin f = record { same = omega arith; few = omega (arith, f .few); near = f .lie }
 
     pub heads-none : (p n : ℕ) → n ≤ 0 → headsLeft p n ≡ 0
     unfolding headsWeight headsFrom
@@ -87,6 +99,9 @@ module _ (t : List ℕ) where
     with-turn : (p n : ℕ) (x : Bool) → 0 < n → eqb (getD t (p + 1) 0) (s .0) ≡ x → withLeft p n ≡ cond x 1 0 + withLeft (p + 22) (n - 1)
     unfolding headsWith headAt
     with-turn p n x h e = rw (heads-first t p n h, e)
+
+    pub with-begins : {p n : ℕ} → FewHeads t p n → Left 1 22 4 (length t) (withLeft p n) (withLeft p n) 0 p n
+    with-begins f = record { same = omega arith; few = omega (arith, f .few); near = f .lie }
 
     pub with-none : (p n : ℕ) → n ≤ 0 → withLeft p n ≡ 0
     unfolding headsWith headsFrom
@@ -110,6 +125,22 @@ module _ (t : List ℕ) where
 
 -- ---- body items
 
+-- the same for `left` items from p on, each of which counts for at most `unit`
+pub record ItemsLeft (t : List ℕ) (unit top whole rest sum p left : ℕ) : Type 0 where
+  pub same : sum + rest ≡ whole
+  pub few : sum + unit * left ≤ top
+  pub lie : ItemsLie t p left
+
+module _ {t : List ℕ} {unit top whole rest sum p left : ℕ} (l : ItemsLeft t unit top whole rest sum p left) (h : 0 < left) where
+  pub item-in : p < length t
+  item-in = first-lies t p left (l .lie) h .0
+
+  pub item-ends : behindItem t p ≤ length t
+  item-ends = first-lies t p left (l .lie) h .1
+
+pub items-ended : {t : List ℕ} {unit top whole rest sum p left : ℕ} → ItemsLeft t unit top whole rest sum p left → rest ≡ 0 → Counted whole top sum
+items-ended l e = record { same = omega (arith, l .same); few = omega (arith, l .few) }
+
 module _ (t : List ℕ) where
   module _ (weights : List ℕ) where
     abbrev bodyLeft : ℕ → ℕ → ℕ
@@ -120,23 +151,30 @@ module _ (t : List ℕ) where
     body-none p zero h = refl
     body-none p (suc n) h = absurd (omega arith)
 
-    fact-turn : (p n : ℕ) → 0 < n → isFact t p ≡ true → bodyLeft p n ≡ getD weights (getD t (p + 1) 0) 1 + bodyLeft (p + 46) (n - 1)
+    fact-turn : (p n : ℕ) → 0 < n → isFact t p ≡ true → bodyLeft p n ≡ getD weights (getD t (p + 1) 0) 1 + bodyLeft (behindItem t p) (n - 1)
     unfolding bodyWeight bodyFactAt
-    fact-turn p n h e = rw (items-first t p n h, item-fact t p e, behind-fact t p e)
+    fact-turn p n h e = rw (items-first t p n h, item-fact t p e)
 
-    fail-turn : (p n : ℕ) → 0 < n → isFact t p ≡ false → bodyLeft p n ≡ bodyLeft (p + 1) (n - 1)
+    fail-turn : (p n : ℕ) → 0 < n → isFact t p ≡ false → bodyLeft p n ≡ bodyLeft (behindItem t p) (n - 1)
     unfolding bodyWeight
-    fail-turn p n h e = rw (items-first t p n h, item-fail t p e, behind-fail t p e)
+    fail-turn p n h e = rw (items-first t p n h, item-fail t p e)
 
-    module _ {far whole sum p left : ℕ} {f : Bool} (l : Left 255 46 1020 far whole (bodyLeft p left) sum p left) (h : 0 < left) (q : f ≡ isFact t p) where
-      pub fact-weighed : {b r : ℕ} → f ≡ true → b ≡ getD t (p + 1) 0 → Counted (getD weights b 1) 255 r
-          → Left 255 46 1020 far whole (bodyLeft (p + 46) (left - 1)) (sum + r) (p + 46) (left - 1)
+    pub body-begins : {p n : ℕ} → FewItems t p n → ItemsLeft t 255 1020 (bodyLeft p n) (bodyLeft p n) 0 p n
+    body-begins f = record { same = omega arith; few = omega (arith, f .few); lie = f .lie }
+
+    module _ {whole sum p left : ℕ} (l : ItemsLeft t 255 1020 whole (bodyLeft p left) sum p left) (h : 0 < left) {next : ℕ} (b : next ≡ behindItem t p)
+        {f : Bool} (q : f ≡ isFact t p) where
+      pub fact-weighed : {s r : ℕ} → f ≡ true → s ≡ getD t (p + 1) 0 → Counted (getD weights s 1) 255 r
+          → ItemsLeft t 255 1020 whole (bodyLeft next (left - 1)) (sum + r) next (left - 1)
       fact-weighed d e c =
-          let x : _ ≡ getD weights (getD t (p + 1) 0) 1 = c .same ∙ ap (λ (b : ℕ). getD weights b 1) e in
-          record { same = omega (arith, l .same, fact-turn p left h (sym q ∙ d), x); few = omega (arith, l .few, c .few); near = omega (arith, l .near) }
+          let x : _ ≡ getD weights (getD t (p + 1) 0) 1 = c .same ∙ ap (λ (s : ℕ). getD weights s 1) e in
+          let turn : bodyLeft p left ≡ getD weights (getD t (p + 1) 0) 1 + bodyLeft next (left - 1) = rw b (fact-turn p left h (sym q ∙ d)) in
+          record { same = omega (arith, l .same, turn, x); few = omega (arith, l .few, c .few); lie = rest-lies t p left (l .lie) h b }
 
-      pub fail-weighed : f ≡ false → Left 255 46 1020 far whole (bodyLeft (p + 1) (left - 1)) sum (p + 1) (left - 1)
-      fail-weighed d = record { same = omega (arith, l .same, fail-turn p left h (sym q ∙ d)); few = omega (arith, l .few); near = omega (arith, l .near) }
+      pub fail-weighed : f ≡ false → ItemsLeft t 255 1020 whole (bodyLeft next (left - 1)) sum next (left - 1)
+      fail-weighed d =
+          let turn : bodyLeft p left ≡ bodyLeft next (left - 1) = rw b (fail-turn p left h (sym q ∙ d)) in
+          record { same = omega (arith, l .same, turn); few = omega (arith, l .few); lie = rest-lies t p left (l .lie) h b }
 
   abbrev factsLeft : ℕ → ℕ → ℕ
   factsLeft p n = bodyFacts (itemsFrom t p n)
@@ -146,20 +184,28 @@ module _ (t : List ℕ) where
   items-none p zero h = refl
   items-none p (suc n) h = absurd (omega arith)
 
-  fact-more : (p n : ℕ) → 0 < n → isFact t p ≡ true → factsLeft p n ≡ suc (factsLeft (p + 46) (n - 1))
+  fact-more : (p n : ℕ) → 0 < n → isFact t p ≡ true → factsLeft p n ≡ suc (factsLeft (behindItem t p) (n - 1))
   unfolding bodyFacts bodyFactAt
-  fact-more p n h e = rw (items-first t p n h, item-fact t p e, behind-fact t p e)
+  fact-more p n h e = rw (items-first t p n h, item-fact t p e)
 
-  fail-more : (p n : ℕ) → 0 < n → isFact t p ≡ false → factsLeft p n ≡ factsLeft (p + 1) (n - 1)
+  fail-more : (p n : ℕ) → 0 < n → isFact t p ≡ false → factsLeft p n ≡ factsLeft (behindItem t p) (n - 1)
   unfolding bodyFacts
-  fail-more p n h e = rw (items-first t p n h, item-fail t p e, behind-fail t p e)
+  fail-more p n h e = rw (items-first t p n h, item-fail t p e)
 
-  module _ {far whole sum p left : ℕ} {f : Bool} (l : Left 1 46 4 far whole (factsLeft p left) sum p left) (h : 0 < left) (q : f ≡ isFact t p) where
-    pub fact-counted : f ≡ true → Left 1 46 4 far whole (factsLeft (p + 46) (left - 1)) (sum + 1) (p + 46) (left - 1)
-    fact-counted d = record { same = omega (arith, l .same, fact-more p left h (sym q ∙ d)); few = omega (arith, l .few); near = omega (arith, l .near) }
+  pub facts-begin : {p n : ℕ} → FewItems t p n → ItemsLeft t 1 4 (factsLeft p n) (factsLeft p n) 0 p n
+  facts-begin f = record { same = omega arith; few = omega (arith, f .few); lie = f .lie }
 
-    pub fail-passed : f ≡ false → Left 1 46 4 far whole (factsLeft (p + 1) (left - 1)) sum (p + 1) (left - 1)
-    fail-passed d = record { same = omega (arith, l .same, fail-more p left h (sym q ∙ d)); few = omega (arith, l .few); near = omega (arith, l .near) }
+  module _ {whole sum p left : ℕ} (l : ItemsLeft t 1 4 whole (factsLeft p left) sum p left) (h : 0 < left) {next : ℕ} (b : next ≡ behindItem t p)
+      {f : Bool} (q : f ≡ isFact t p) where
+    pub fact-counted : f ≡ true → ItemsLeft t 1 4 whole (factsLeft next (left - 1)) (sum + 1) next (left - 1)
+    fact-counted d =
+        let turn : factsLeft p left ≡ suc (factsLeft next (left - 1)) = rw b (fact-more p left h (sym q ∙ d)) in
+        record { same = omega (arith, l .same, turn); few = omega (arith, l .few); lie = rest-lies t p left (l .lie) h b }
+
+    pub fail-passed : f ≡ false → ItemsLeft t 1 4 whole (factsLeft next (left - 1)) sum next (left - 1)
+    fail-passed d =
+        let turn : factsLeft p left ≡ factsLeft next (left - 1) = rw b (fail-more p left h (sym q ∙ d)) in
+        record { same = omega (arith, l .same, turn); few = omega (arith, l .few); lie = rest-lies t p left (l .lie) h b }
 
 -- ---- a goal's facts
 

@@ -14,13 +14,17 @@ use Rattle.model.specs.declared.Symbol.{Symbol}
 use Rattle.model.specs.declared.HeadPlace.{HeadPlace}
 use Rattle.model.specs.declared.Reading.{Reading}
 use Rattle.model.specs.declared.RuleShape.{RuleShape}
+use Rattle.model.specs.Limits.{mostRules}
 use Rattle.model.specs.Reading.{noShape, readOf}
-use Rattle.model.specs.Table.{Head, Rule, Table, heads, headsStart, headsFrom, itemsStart, itemsFrom, noRule, tableOf, ruleOf, ruleAt, sameSymbol, placeIf, placesIn, placesFrom, places}
+use Rattle.model.specs.Table.{Head, Rule, Table, heads, headsStart, headsFrom, itemsStart, itemsFrom, noRule, tableOf, ruleOf, ruleAt, sameSymbol, placeIf}
+use Rattle.model.specs.Table.{placesIn, placesFrom, places}
 use Rattle.model.specs.Weights.{bodyFacts, bodyWeight, headsWeight, firstHeavy, mostFacts, mostPlaces}
 use Rattle.model.proofs.Lists.{not-true}
 use Rattle.model.proofs.Good.{GoodRule, GoodTable, good-table}
 use Rattle.model.proofs.Decoded.{rule-body, rule-heads, rule-removed, rules-length, rule-at}
-use Rattle.weighing.specs.Views.{Counted, Known, Lies, losesWeight, headsWith, allHeadsWith}
+use Rattle.records.proofs.PartsLie.{items-lie}
+use Rattle.weighing.specs.declared.RuleWeights.{RuleWeights}
+use Rattle.weighing.specs.Views.{Counted, Known, FewHeads, FewItems, Lies, Weighs, losesWeight, headsWith, allHeadsWith}
 use Rattle.weighing.proofs.Parts.{Left, ended}
 
 -- ---- what is known of a good table
@@ -29,7 +33,7 @@ module _ {t : List ℕ} {r : Reading} (k : Known t r) where
   pub known-good : GoodTable t
   known-good = good-table t (sym (ap (λ (r : Reading). r .verdict) (k .same)) ∙ k .good)
 
-  pub few-rules : r .rules ≤ 64
+  pub few-rules : r .rules ≤ mostRules
   few-rules = rw (k .same) (known-good .fewRules)
 
   module _ {i : ℕ} (h : i < r .rules) where
@@ -42,13 +46,16 @@ module _ {t : List ℕ} {r : Reading} (k : Known t r) where
     rule-good : GoodRule t (readOf t .symbols) shape
     rule-good = rw (k .same) (known-good .each i read)
 
-    pub lies : Lies shape
+    pub lies : Lies t shape
     lies = record {
-      near = omega (arith, rule-good .partsIn, known-good .short);
+      partsIn = rule-good .partsIn;
       fewHeads = rule-good .fewHeads;
       keptFew = rule-good .keptFew;
-      fewItems = rule-good .fewItems;
+      body = record { lie = items-lie t (readOf t .symbols) (itemsStart shape) (shape .items) (rule-good .bodyIn); few = rule-good .fewItems };
     }
+
+    pub rule-among : i < mostRules
+    rule-among = omega (arith, few-rules)
 
     first : drop i (tableOf t .rules) ≡ ruleOf t shape ∷ drop (i + 1) (tableOf t .rules)
     unfolding ruleAt
@@ -64,7 +71,8 @@ module _ {t : List ℕ} {r : Reading} (k : Known t r) where
 
 -- ---- 42
 
-heavy-cons : (w : Symbol → ℕ) (k : ℕ) (x : Rule) (rs : List Rule) (b : Bool) → losesWeight w x ≡ b → firstHeavy w k (x ∷ rs) ≡ cond b (firstHeavy w (suc k) rs) (some k)
+heavy-cons : (w : Symbol → ℕ) (k : ℕ) (x : Rule) (rs : List Rule) (b : Bool) → losesWeight w x ≡ b
+    → firstHeavy w k (x ∷ rs) ≡ cond b (firstHeavy w (suc k) rs) (some k)
 unfolding losesWeight firstHeavy
 heavy-cons w k x rs b e = rw (e, firstHeavy) (go b)
   where
@@ -76,29 +84,43 @@ heavy-cons w k x rs b e = rw (e, firstHeavy) (go b)
 abbrev heavyLeft : (Symbol → ℕ) → List ℕ → ℕ → ℕ → Option ℕ
 heavyLeft w t n left = firstHeavy w (n - left) (drop (n - left) (tableOf t .rules))
 
-module _ (w : Symbol → ℕ) {t : List ℕ} {r : Reading} (k : Known t r) where
-  pub heavy-begin : firstHeavy w 0 (tableOf t .rules) ≡ heavyLeft w t (r .rules) (r .rules)
-  heavy-begin = let e : r .rules - r .rules ≡ 0 = omega arith in rw e
+-- these answer for all n rules of a reading
+pub record HeavyLeft (w : Symbol → ℕ) (t : List ℕ) (r : Reading) (n left : ℕ) : Type 0 where
+  pub same : firstHeavy w 0 (tableOf t .rules) ≡ heavyLeft w t n left
+  pub few : left ≤ n
+  pub all : n ≡ r .rules
+  pub fewRules : n ≤ mostRules
+  pub known : Known t r
 
-  module _ {left : ℕ} (few : left ≤ r .rules) (h : 0 < left) {b : Bool} (e : b ≡ losesWeight w (ruleOf t (getD (r .shapes) (r .rules - left) noShape))) where
-    heavy-turn : (d : Bool) → b ≡ d → heavyLeft w t (r .rules) left ≡ cond d (heavyLeft w t (r .rules) (left - 1)) (some (r .rules - left))
-    heavy-turn d q =
-        let n : r .rules - (left - 1) ≡ suc (r .rules - left) = omega arith in
-        rw (first k {i = r .rules - left} (omega arith), n, add-one (r .rules - left)) (heavy-cons w (r .rules - left) _ _ d (sym e ∙ q))
+pub heavy-begins : {w : Symbol → ℕ} {t : List ℕ} {r : Reading} → Known t r → HeavyLeft w t r (r .rules) (r .rules)
+heavy-begins {r = r} k =
+    let e : r .rules - r .rules ≡ 0 = omega arith in record { same = rw e; few = omega arith; all = refl; fewRules = few-rules k; known = k }
 
-    pub heavy-here : not b ≡ true → some (r .rules - left) ≡ heavyLeft w t (r .rules) left
-    heavy-here q = sym (heavy-turn false (not-true b q))
+module _ {w : Symbol → ℕ} {t : List ℕ} {r : Reading} {n left : ℕ} (l : HeavyLeft w t r n left) where
+  module _ (h : 0 < left) where
+    inside : n - left < r .rules
+    inside = omega (arith, l .few, l .all)
 
-    pub heavy-later : not b ≡ false → heavyLeft w t (r .rules) left ≡ heavyLeft w t (r .rules) (left - 1)
-    heavy-later q = heavy-turn true (not-false b q)
-      where
-        not-false : (b : Bool) → not b ≡ false → b ≡ true
-        not-false true q = refl
-        not-false false q = sym q
+    module _ {b : Bool} (e : b ≡ losesWeight w (ruleOf t (getD (r .shapes) (n - left) noShape))) where
+      heavy-turn : (d : Bool) → b ≡ d → heavyLeft w t n left ≡ cond d (heavyLeft w t n (left - 1)) (some (n - left))
+      heavy-turn d q =
+          let m : n - (left - 1) ≡ suc (n - left) = omega (arith, l .few) in
+          rw (first (l .known) {i = n - left} inside, m, add-one (n - left)) (heavy-cons w (n - left) _ _ d (sym e ∙ q))
 
-  pub heavy-never : (left : ℕ) → left ≤ 0 → none ≡ heavyLeft w t (r .rules) left
+      pub heavy-here : not b ≡ true → some (n - left) ≡ firstHeavy w 0 (tableOf t .rules)
+      heavy-here q = sym (l .same ∙ heavy-turn false (not-true b q))
+
+      pub heavy-later : not b ≡ false → HeavyLeft w t r n (left - 1)
+      heavy-later q =
+          record { same = l .same ∙ heavy-turn true (not-false b q); few = omega (arith, l .few); all = l .all; fewRules = l .fewRules; known = l .known }
+        where
+          not-false : (b : Bool) → not b ≡ false → b ≡ true
+          not-false true q = refl
+          not-false false q = sym q
+
+  pub heavy-never : left ≤ 0 → none ≡ firstHeavy w 0 (tableOf t .rules)
   unfolding firstHeavy
-  heavy-never left h = rw (last k {i = r .rules - left} (omega arith))
+  heavy-never h = sym (l .same ∙ rw (last (l .known) {i = n - left} (omega (arith, l .all))))
 
 -- ---- B
 
@@ -199,13 +221,26 @@ places-all {t} {r} k n c a b =
 
 -- ---- a rule by where it stands
 
-pub rule-facts : (t : List ℕ) (r : RuleShape) {p n : ℕ} → p ≡ itemsStart r → Counted (bodyFacts (itemsFrom t p (r .items))) 4 n → Counted (bodyFacts (ruleOf t r .body)) 4 n
-rule-facts t r e c = rw (rule-body t r, ← e) c
+module _ {t : List ℕ} {r : RuleShape} (l : Lies t r) {p : ℕ} where
+  pub heads-lie : p ≡ headsStart r + 22 * 0 → FewHeads t p (r .heads)
+  heads-lie e = record { lie = omega (arith, l .partsIn); few = l .fewHeads }
 
-pub rule-with : (t : List ℕ) (s : Symbol) (r : RuleShape) {n : ℕ} → Lies r → Counted (headsWith s (headsFrom t (headsStart r) (r .heads))) 4 n → Counted (headsWith s (heads (ruleOf t r))) 4 n
-rule-with t s r l c = rw (rule-heads t r (l .keptFew)) c
+  pub body-lies : p ≡ itemsStart r → FewItems t p (r .items)
+  body-lies e = rw e (l .body)
 
-pub rule-loses : (w : Symbol → ℕ) (t : List ℕ) (r : RuleShape) {p m n : ℕ} → Counted (headsWeight w (headsFrom t (headsStart r + 22 * r .kept) (r .heads - r .kept))) 1020 m
-    → p ≡ itemsStart r → Counted (bodyWeight w (itemsFrom t p (r .items))) 1020 n → ltb n m ≡ losesWeight w (ruleOf t r)
+  pub rule-facts : {n : ℕ} → p ≡ itemsStart r → Counted (bodyFacts (itemsFrom t p (r .items))) 4 n → Counted (bodyFacts (ruleOf t r .body)) 4 n
+  rule-facts e c = rw (rule-body t r, ← e) c
+
+  pub rule-with : (s : Symbol) {n : ℕ} → p ≡ headsStart r + 22 * 0 → Counted (headsWith s (headsFrom t p (r .heads))) 4 n
+      → Counted (headsWith s (heads (ruleOf t r))) 4 n
+  rule-with s e c =
+      let first : headsStart r ≡ p = omega arith in
+      rw (rule-heads t r (l .keptFew), first) c
+
+  pub rule-weighs : (w : Symbol → ℕ) {q m n : ℕ} → p ≡ headsStart r + 22 * r .kept → Counted (headsWeight w (headsFrom t p (r .heads - r .kept))) 1020 m
+      → q ≡ itemsStart r → Counted (bodyWeight w (itemsFrom t q (r .items))) 1020 n → Weighs w (ruleOf t r) (record { removed = m; body = n })
+  rule-weighs w e a d b = record { removed = rw (rule-removed t r, ← e) a; body = rw (rule-body t r, ← d) b }
+
+pub rule-loses : (w : Symbol → ℕ) (x : Rule) {sides : RuleWeights} → Weighs w x sides → ltb (sides .body) (sides .removed) ≡ losesWeight w x
 unfolding losesWeight
-rule-loses w t r a e b = rw (rule-body t r, rule-removed t r, ← e, ← a .same, ← b .same)
+rule-loses w x s = rw (s .removed .same, s .body .same)

@@ -13,31 +13,39 @@ ghost use Rattle.model.specs.declared.Verdict.the-variants.{Good};
 ghost use Rattle.model.specs.Reading.{readOf};
 ghost use Rattle.model.specs.Goal.{goalVerdict};
 ghost use Rattle.model.specs.Weights.{stepBound};
+ghost use Rattle.model.specs.Results.{refusal};
 ghost use Rattle.model.specs.Calls.{refusedWeighing, weighed, weighRules, weighZero, weighCount, weighOf};
 ghost use Rattle.weighing.specs.Views.{Known};
 use model::CallResult;
 use model::Reading;
+use model::RuleNumber;
+use model::Symbol;
 use model::Verdict;
 use model::Weighing;
 
-// What a search for the first of its sort finds.
-pub enum First {
-    At(u32),
+// What a search for the first symbol of its sort finds.
+pub enum FirstSymbol {
+    At(Symbol),
     Nothing,
 }
 
-// Six numbers with no counts, W and the bound.
-fn weighing(number: u32, place: u32, weight: u32, bound: u32) -> Weighing
-    ensures { λ r. ⌜ r ≡ record { result = record { number = number; place = place; steps = 0; firings = 0; identifiers = 0; stored = 0 }; weight = weight; bound = bound } ⌝ }
+// What a search for the first rule of its sort finds.
+pub enum FirstRule {
+    At(RuleNumber),
+    Nothing,
+}
+
+// What the removed heads of a rule weigh, and what its body weighs.
+pub struct RuleWeights {
+    pub removed: u32,
+    pub body: u32,
+}
+
+// A result with no counts, W and the bound.
+fn weighing(number: u8, place: u32, weight: u32, bound: u32) -> Weighing
+    ensures { λ r. ⌜ r ≡ record { result = refusal number place; weight = weight; bound = bound } ⌝ }
 {
-    let result = CallResult {
-        number: number,
-        place: place,
-        steps: 0,
-        firings: 0,
-        identifiers: 0,
-        stored: 0,
-    };
+    let result = CallResult::refusal(number, place);
     Weighing {
         result: result,
         weight: weight,
@@ -45,7 +53,7 @@ fn weighing(number: u32, place: u32, weight: u32, bound: u32) -> Weighing
     }
 }
 
-fn refused(number: u32, place: u32) -> Weighing
+fn refused(number: u8, place: u32) -> Weighing
     ensures { λ r. ⌜ r ≡ refusedWeighing number place ⌝ }
 {
     weighing(number, place, 0, 0)
@@ -78,7 +86,7 @@ fn weigh_goal(table: &[u8], weights: &[u8], goal: &[u8], reading: Reading) -> We
 {
     match goal::check_goal(table, reading.symbols, goal) {
         Verdict::Good => weighed(table, weights, goal, reading),
-        Verdict::Refused(n, p) => refused(n as u32, p as u32),
+        Verdict::Refused(n, p) => refused(n, p as u32),
     }
 }
 
@@ -88,22 +96,23 @@ fn weigh_rules(table: &[u8], weights: &[u8], goal: &[u8], reading: Reading) -> W
     ensures { λ r. ⌜ r ≡ weighZero (now (table .entry)) (now (weights .entry)) (now (goal .entry)) none ⌝ }
 {
     match rules::first_heavy(table, weights, reading) {
-        First::At(rule) => refused(42, rule),
-        First::Nothing => weigh_goal(table, weights, goal, reading),
+        FirstRule::At(rule) => refused(42, rule.0 as u32),
+        FirstRule::Nothing => weigh_goal(table, weights, goal, reading),
     }
 }
 
 // 40: "weight count differs from symbols"; 41: "first zero weight".
 fn weigh_weights(table: &[u8], weights: &[u8], goal: &[u8], reading: Reading) -> Weighing
     requires { ⌜ Known (now table) reading ⌝ }
-    ensures { λ r. ⌜ r ≡ weighCount (now (table .entry)) (now (weights .entry)) (now (goal .entry)) (eqb (length (now (weights .entry))) (readOf (now (table .entry)) .symbols)) ⌝ }
+    ensures { λ r. ⌜ r ≡ weighCount (now (table .entry)) (now (weights .entry)) (now (goal .entry))
+        (eqb (length (now (weights .entry))) (readOf (now (table .entry)) .symbols)) ⌝ }
 {
     if weights.len() != reading.symbols as usize {
         return refused(40, 0);
     }
     match goals::first_zero(weights) {
-        First::At(symbol) => refused(41, symbol),
-        First::Nothing => weigh_rules(table, weights, goal, reading),
+        FirstSymbol::At(symbol) => refused(41, symbol.0 as u32),
+        FirstSymbol::Nothing => weigh_rules(table, weights, goal, reading),
     }
 }
 
@@ -115,6 +124,6 @@ pub fn weigh(table: &[u8], weights: &[u8], goal: &[u8]) -> Weighing
     let verdict = reading.verdict;
     match verdict {
         Verdict::Good => weigh_weights(table, weights, goal, reading),
-        Verdict::Refused(n, p) => refused(n as u32, p as u32),
+        Verdict::Refused(n, p) => refused(n, p as u32),
     }
 }

@@ -1,40 +1,48 @@
 // The rules of a good table: the first that does not lose weight (42), B and M.
 ghost use mathlib.Core.Path.{_≡_};
-ghost use Prim.Native.Nat.{_≤_};
 ghost use lib.ListN.{length};
 ghost use Rattle.model.specs.Reading.{readOf};
-ghost use Rattle.model.specs.Table.{itemsStart, ruleOf, heads, tableOf, places};
+ghost use Rattle.model.specs.Table.{ruleOf, heads, tableOf, places};
 ghost use Rattle.model.specs.Weights.{weightIn, bodyFacts, firstHeavy, mostFacts, mostPlaces};
-ghost use Rattle.weighing.specs.Views.{Counted, Known, Lies, firstOf, losesWeight, headsWith};
-use crate::First;
+ghost use Rattle.weighing.specs.Views.{Counted, Known, Lies, Weighs, firstRule, losesWeight, headsWith};
+use crate::FirstRule;
+use crate::RuleWeights;
 use crate::bodies;
 use crate::heads;
 use model::Reading;
+use model::RuleNumber;
 use model::RuleShape;
 use model::Symbol;
+use records::geometry;
 
-pub fn items_start(shape: RuleShape) -> usize
-    requires { ⌜ itemsStart shape ≤ 23681 ⌝ }
-    ensures { λ r. ⌜ r ≡ itemsStart shape ⌝ }
+// What the two sides of a rule weigh.
+pub fn rule_weights(table: &[u8], weights: &[u8], shape: RuleShape) -> RuleWeights
+    requires { ⌜ Lies (now table) shape ⌝ }
+    ensures { λ r. ⌜ Weighs (weightIn (now (weights .entry))) (ruleOf (now (table .entry)) shape) r ⌝ }
 {
-    shape.start as usize + 1 + 22 * (shape.heads as usize) + 24 * (shape.guards as usize)
+    let kept = shape.kept;
+    let from = geometry::head_start(shape, kept as usize);
+    let removed = heads::heads_weight(table, weights, from, shape.heads - kept);
+    let body = bodies::body_weight(table, weights, geometry::items_start(shape), shape.items);
+    RuleWeights {
+        removed: removed,
+        body: body,
+    }
 }
 
 // Whether the removed heads of a rule weigh more than its body.
 fn loses_weight(table: &[u8], weights: &[u8], shape: RuleShape) -> bool
-    requires { ⌜ Lies shape ⌝ }
+    requires { ⌜ Lies (now table) shape ⌝ }
     ensures { λ r. ⌜ r ≡ losesWeight (weightIn (now (weights .entry))) (ruleOf (now (table .entry)) shape) ⌝ }
 {
-    let from = shape.start as usize + 1 + 22 * (shape.kept as usize);
-    let removed = heads::heads_weight(table, weights, from, shape.heads - shape.kept);
-    let body = bodies::body_weight(table, weights, items_start(shape), shape.items);
-    body < removed
+    let sides = rule_weights(table, weights, shape);
+    sides.body < sides.removed
 }
 
 // 42: "first rule that does not lose weight".
-pub fn first_heavy(table: &[u8], weights: &[u8], reading: Reading) -> First
+pub fn first_heavy(table: &[u8], weights: &[u8], reading: Reading) -> FirstRule
     requires { ⌜ Known (now table) reading ⌝ }
-    ensures { λ r. ⌜ firstOf r ≡ firstHeavy (weightIn (now (weights .entry))) 0 (tableOf (now (table .entry)) .rules) ⌝ }
+    ensures { λ r. ⌜ firstRule r ≡ firstHeavy (weightIn (now (weights .entry))) 0 (tableOf (now (table .entry)) .rules) ⌝ }
 {
     let rules = reading.rules as usize;
     let mut left = rules;
@@ -43,18 +51,18 @@ pub fn first_heavy(table: &[u8], weights: &[u8], reading: Reading) -> First
         left -= 1;
         let shape = reading.shapes[i];
         if !loses_weight(table, weights, shape) {
-            return First::At(i as u32);
+            return FirstRule::At(RuleNumber(i as u8));
         }
     }
-    First::Nothing
+    FirstRule::Nothing
 }
 
 // How many facts the body of a rule has.
 fn rule_facts(table: &[u8], shape: RuleShape) -> u32
-    requires { ⌜ Lies shape ⌝ }
+    requires { ⌜ Lies (now table) shape ⌝ }
     ensures { λ r. ⌜ Counted (bodyFacts (ruleOf (now (table .entry)) shape .body)) 4 r ⌝ }
 {
-    bodies::body_facts(table, items_start(shape), shape.items)
+    bodies::body_facts(table, geometry::items_start(shape), shape.items)
 }
 
 // B: the most facts in any body.
@@ -78,10 +86,10 @@ pub fn most_facts(table: &[u8], reading: Reading) -> u32
 
 // How many heads of a rule have this symbol.
 fn rule_heads_with(table: &[u8], shape: RuleShape, symbol: Symbol) -> u32
-    requires { ⌜ Lies shape ⌝ }
+    requires { ⌜ Lies (now table) shape ⌝ }
     ensures { λ r. ⌜ Counted (headsWith symbol (heads (ruleOf (now (table .entry)) shape))) 4 r ⌝ }
 {
-    heads::heads_with(table, shape.start as usize + 1, shape.heads, symbol)
+    heads::heads_with(table, geometry::head_start(shape, 0), shape.heads, symbol)
 }
 
 // How many head places a symbol has: as many as heads with it, over all rules.

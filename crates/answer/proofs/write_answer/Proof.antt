@@ -4,7 +4,7 @@ use mathlib.Core.Path.{_≡_}
 use native.Mathlib.Omega.{arith}
 use borrow.Author.Needs.{needs}
 use Rattle.model.specs.Answer.{answered}
-use Rattle.search.specs.Views.{rowsFrom}
+use Rattle.store.specs.Views.{rowsFrom}
 use Rattle.answer.proofs.Rows.{no-rows, rows-room, one-more, rows-long, rows-done}
 use Rattle.answer.proofs.write_answer.Statement.{statement}
 use Rattle.answer.proofs.write_answer.Tie as tie

@@ -1,4 +1,4 @@
--- `vectors::main` is safe and ends: the number of cases left falls. Assumes nothing.
+-- `call_cases::main` is safe and ends: the number of cases left falls. Assumes nothing.
 use borrow.Author.Needs.{needs}
 use Rattle.call_cases.proofs.main.Statement.{statement}
 use Rattle.call_cases.proofs.main.Tie as tie

@@ -1,4 +1,4 @@
--- `vectors::untouched` is safe and ends: the place rises to the length. Assumes nothing.
+-- `call_cases::untouched` is safe and ends: the place rises to the length. Assumes nothing.
 use borrow.Author.Needs.{needs}
 use Prim.Native.Nat.{_≤_, _-_}
 use lib.ListN.{length}

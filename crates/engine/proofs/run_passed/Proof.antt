@@ -1,10 +1,14 @@
 -- `engine::run_passed` meets its contract: the steps give the result and the store, and the answer is written only for 0.
 use mathlib.Core.Path.{refl}
 use native.Mathlib.Omega.{arith}
-use Rattle.engine.proofs.Calling.{done-output, other-output, answer-fits}
 use borrow.Author.Needs.{needs}
+use Rattle.engine.proofs.Calling.{done-output, other-output, answer-fits}
 use Rattle.engine.proofs.run_passed.Statement.{statement}
 use Rattle.engine.proofs.run_passed.Tie as tie
+
+-- the call's beginning: too far back for a search from an answer, so that it is looked for from behind the steps
+abbrev began : tie.After-take → tie.Start
+began ran = search needs
 
 no-starts-requires : tie.Need-no-starts-requires
 no-starts-requires c κs = search needs
@@ -35,23 +39,23 @@ cast-n c = search needs
 
 write-answer-requires : tie.Need-write-answer-requires
 write-answer-requires c κs =
-    let at-take = c .before .before .before .before .before .before .before in
-    let at-pre = at-take .before .before .before .before .before .before .before .before .before .before .before .before .before .before .before .before
-    .before .before .before .before in
-    answer-fits (at-take .take .ensures) (at-pre .pre .roomy) refl
+    let ran : tie.After-take = search needs in
+    answer-fits (ran .take .ensures) (began ran .pre .roomy) refl
 
 same-length : tie.Need-same-length
 same-length c = search needs
 
 returns : tie.Need-returns
 returns c =
-    let at-write-answer = c .before .before in
-    let at-if1 = at-write-answer .before .before .before .before .before .before in
-    let at-take = at-if1 .before .before in
-    done-output (at-take .take .ensures) _ (at-if1 .if1 .taken) refl (at-write-answer .write-answer .ensures)
+    let ran : tie.After-take = search needs in
+    let done : tie.Then1 = search needs in
+    let written : tie.After-write-answer = search needs in
+    done-output (ran .take .ensures) _ (done .if1 .taken) refl (written .write-answer .ensures)
 
 returns-2 : tie.Need-returns-2
-returns-2 c = other-output (c .before .before .take .ensures) _ (c .if1 .left)
+returns-2 c =
+    let ran : tie.After-take = search needs in
+    other-output (ran .take .ensures) _ (c .if1 .left)
 
 pub run-passed-spec : {M : Type 1} → statement M
 run-passed-spec =

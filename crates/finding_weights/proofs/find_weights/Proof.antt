@@ -1,8 +1,6 @@
--- `find_weights` meets its contract: a refusal's place is at most 23,681, so it fits.
-use native.Mathlib.Omega.{arith}
+-- `find_weights` meets its contract.
 use borrow.Author.Needs.{needs}
-use Rattle.model.proofs.Good.{refusal-small}
-use Rattle.weighing.proofs.Chain.{verdict-read}
+use Rattle.table.proofs.Verdicts.{place-fits}
 use Rattle.finding_weights.proofs.Finding.{table-good, table-refused}
 use Rattle.finding_weights.proofs.find_weights.Statement.{statement}
 use Rattle.finding_weights.proofs.find_weights.Tie as tie
@@ -15,7 +13,7 @@ find-weights-spec =
     (λ c. search needs)
     (λ c κs. search needs)
     (λ c. search needs)
-    (λ c. omega (arith, refusal-small _ _ _ (verdict-read _ (c .before .before .before .read .ensures) (c .before .verdict .given .1)) .near))
+    (λ c. search place-fits)
     (λ c κs. search needs)
     (λ c. search needs)
     (λ c. search (table-good, needs))

@@ -2,9 +2,9 @@
 use native.Mathlib.Omega.{arith}
 use borrow.Author.Needs.{needs}
 use Rattle.model.specs.Table.{tableOf}
-use Rattle.weighing.proofs.Turns.{lies}
 use Rattle.finding_weights.specs.Search.{mostRaises, searchFrom}
-use Rattle.finding_weights.proofs.Raising.{Left, rule-inside, shape-inside, symbol-inside, search-begins, search-ends, search-finds, search-stops, search-goes-on}
+use Rattle.finding_weights.proofs.Raising.{Left, shape-inside, shape-lies, symbol-inside, search-begins, search-ends, search-finds, search-stops}
+use Rattle.finding_weights.proofs.Raising.{search-goes-on}
 use Rattle.finding_weights.proofs.search.Statement.{statement}
 use Rattle.finding_weights.proofs.search.Tie as tie
 
@@ -30,10 +30,10 @@ search-spec =
     (λ c. search needs)
     (λ c. search needs)
     (λ c. search (shape-inside, needs))
-    (λ c κs. search (lies, rule-inside, needs))
+    (λ c κs. search (shape-lies, needs))
     (λ c. search needs)
     (λ c. search needs)
-    (λ c. omega (arith, symbol-inside (c .before .before .before .before .before .before .before .before .before .before .before .before .loop .inv) (c .before .before .before .before .before .before .before .before .before .before .before .loop-test .taken) (c .before .before .before .before .before .before .before .rule .given .1) (c .before .before .before .before .before .before .before .before .before .first-heavy .ensures) (c .before .before .before .raise .ensures) (c .before .symbol .given .1)))
+    (λ c. search symbol-inside)
     (λ c. omega arith)
     (λ c. search (search-goes-on, needs))
     (λ c. search needs)

@@ -20,4 +20,9 @@ goal-fact-spec =
     (λ c κs. search needs)
     (λ c. search needs)
     (λ c. search needs)
-    (λ c. fact-is _ _ (toZ-ofZ (record { sfits = c .before .before .before .before .i32-within .ok }) ∙ c .before .before .before .before .i32-within .ensures) (toZ-ofZ (record { sfits = c .before .before .before .i32-within2 .ok }) ∙ c .before .before .before .i32-within2 .ensures) (toZ-ofZ (record { sfits = c .before .before .i32-within3 .ok }) ∙ c .before .before .i32-within3 .ensures) (toZ-ofZ (record { sfits = c .before .i32-within4 .ok }) ∙ c .before .i32-within4 .ensures)))
+    (λ c.
+    fact-is _ _
+    (toZ-ofZ (record { sfits = c .before .before .before .before .i32-within .ok }) ∙ c .before .before .before .before .i32-within .ensures)
+    (toZ-ofZ (record { sfits = c .before .before .before .i32-within2 .ok }) ∙ c .before .before .before .i32-within2 .ensures)
+    (toZ-ofZ (record { sfits = c .before .before .i32-within3 .ok }) ∙ c .before .before .i32-within3 .ensures)
+    (toZ-ofZ (record { sfits = c .before .i32-within4 .ok }) ∙ c .before .i32-within4 .ensures)))

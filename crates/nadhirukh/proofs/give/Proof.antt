@@ -1,4 +1,4 @@
--- `give` meets its contract: six words in their order, and the number. Assumes nothing.
+-- `give` meets its contract: the words in their order, and the number. Assumes nothing.
 use mathlib.Core.Path.{refl}
 use Rattle.nadhirukh.proofs.give.Statement.{statement}
 use Rattle.nadhirukh.proofs.give.Tie as tie

@@ -1,4 +1,4 @@
--- `edges::put_bytes` is safe and ends: the place rises to the length.
+-- `number_cases::put_bytes` is safe and ends: the place rises to the length.
 -- Assumes nothing.
 use borrow.Author.Needs.{needs}
 use Prim.Native.Nat.{_≤_, _-_}

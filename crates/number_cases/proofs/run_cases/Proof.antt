@@ -1,4 +1,4 @@
--- `edges::run_cases` is safe and ends: each case lies within the slice, and the place rises to the length.
+-- `number_cases::run_cases` is safe and ends: each case lies within the slice, and the place rises to the length.
 -- Assumes nothing.
 use borrow.Author.Needs.{needs}
 use Prim.Native.Nat.{_≤_, _-_}

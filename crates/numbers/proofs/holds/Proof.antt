@@ -18,4 +18,7 @@ holds-spec =
     (λ c. simp (c .match .keys4, toZ-ofZ (c .before .fits .a), toZ-ofZ (c .before .fits .b)))
     (λ c. simp (c .match .keys5, toZ-ofZ (c .before .fits .a), toZ-ofZ (c .before .fits .b)))
     (λ c. simp (c .match .keys6, toZ-ofZ (c .before .fits .a), toZ-ofZ (c .before .fits .b)))
-    (λ c. let r = c .match .rest in simp (ne-eqb _ _ (r .0 .0 .0 .0 .0 .1), ne-eqb _ _ (r .0 .0 .0 .0 .1), ne-eqb _ _ (r .0 .0 .0 .1), ne-eqb _ _ (r .0 .0 .1), ne-eqb _ _ (r .0 .1), ne-eqb _ _ (r .1))))
+    (λ c.
+    let r = c .match .rest in
+    let s = r .0 .0 .0 in
+    simp (ne-eqb _ _ (s .0 .0 .1), ne-eqb _ _ (s .0 .1), ne-eqb _ _ (s .1), ne-eqb _ _ (r .0 .0 .1), ne-eqb _ _ (r .0 .1), ne-eqb _ _ (r .1))))

@@ -24,4 +24,7 @@ operate-spec =
     (λ c. let s = c .before .before in c .product .ensures ∙ simp (c .before .match .keys4, toZ-ofZ (s .fits .a), toZ-ofZ (s .fits .b)))
     (λ c. let s = c .before .before in c .quotient .ensures ∙ simp (c .before .match .keys5, toZ-ofZ (s .fits .a), toZ-ofZ (s .fits .b)))
     (λ c. let s = c .before .before in c .remainder .ensures ∙ simp (c .before .match .keys6, toZ-ofZ (s .fits .a), toZ-ofZ (s .fits .b)))
-    (λ c. let r = c .match .rest in simp (ne-eqb _ _ (r .0 .0 .0 .0 .0 .1), ne-eqb _ _ (r .0 .0 .0 .0 .1), ne-eqb _ _ (r .0 .0 .0 .1), ne-eqb _ _ (r .0 .0 .1), ne-eqb _ _ (r .0 .1), ne-eqb _ _ (r .1))))
+    (λ c.
+    let r = c .match .rest in
+    let s = r .0 .0 .0 in
+    simp (ne-eqb _ _ (s .0 .0 .1), ne-eqb _ _ (s .0 .1), ne-eqb _ _ (s .1), ne-eqb _ _ (r .0 .0 .1), ne-eqb _ _ (r .0 .1), ne-eqb _ _ (r .1))))

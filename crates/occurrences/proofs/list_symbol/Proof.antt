@@ -5,12 +5,13 @@ use Prim.Native.Nat.{_-_}
 use mathlib.Core.List.{_++_}
 use Rattle.model.specs.Table.{tableOf, places}
 use Rattle.occurrences.specs.Listing.{listOf}
-use Rattle.occurrences.proofs.Filling.{SymbolLeft, list-few, few-rules, symbol-begin, read-lies, read-room, read-listed, read-end}
+use Rattle.occurrences.proofs.Filling.{SymbolLeft, symbol-begin, rule-among, rule-next, rule-asked, rule-listed, symbol-end}
 use Rattle.occurrences.proofs.list_symbol.Statement.{statement}
 use Rattle.occurrences.proofs.list_symbol.Tie as tie
 
 abbrev Inv-loop : tie.InvT-loop
-Inv-loop t symbol count rules₀ heads₀ reading n₀ rule₀ rules heads n rule = SymbolLeft t symbol (listOf rules₀ heads₀ count ++ places (tableOf t) symbol) rules heads n rule
+Inv-loop t symbol count rules₀ heads₀ reading n₀ rule₀ rules heads n rule =
+    SymbolLeft t symbol reading (listOf rules₀ heads₀ count ++ places (tableOf t) symbol) rules heads n rule
 
 abbrev μ-loop : tie.MeasureT-loop
 μ-loop t symbol count rules₀ heads₀ reading n₀ rule₀ rules heads n rule = reading .rules - rule
@@ -21,12 +22,12 @@ list-symbol-spec =
     (tie.spec
     Inv-loop
     μ-loop
-    (λ c. symbol-begin _ _ _ _ _ (c .before .pre .2))
+    (λ c. search symbol-begin)
     (λ c. search needs)
     (λ c. search needs)
-    (λ c. omega (arith, few-rules _ (c .before .before .before .pre .0) (c .before .before .before .pre .1)))
-    (λ c κs. (read-lies (c .before .before .before .before .before .before .pre .0) (c .before .before .before .before .before .before .pre .1) (c .before .before .before .before .loop .inv) (c .before .before .before .loop-test .taken), c .before .before .before .before .loop .inv .room, read-room (c .before .before .before .before .before .before .pre .0) (c .before .before .before .before .before .before .pre .1) (c .before .before .before .before .loop .inv) (c .before .before .before .loop-test .taken) (list-few _ _ _ _ (c .before .before .before .before .before .before .pre .3))))
-    (λ c. omega (arith, few-rules _ (c .before .before .before .before .before .before .before .pre .0) (c .before .before .before .before .before .before .before .pre .1)))
+    (λ c. search rule-among)
+    (λ c κs. search rule-asked)
+    (λ c. search rule-next)
     (λ c. omega arith)
-    (λ c. read-listed (c .before .before .before .before .before .before .before .pre .0) (c .before .before .before .before .before .before .before .pre .1) (c .before .before .before .before .before .loop .inv) (c .before .before .before .before .loop-test .taken) (c .list-rule .ensures))
-    (λ c. read-end (c .before .before .before .pre .0) (c .before .before .before .pre .1) (c .before .loop .inv) (c .loop-test .left)))
+    (λ c. search rule-listed)
+    (λ c. search symbol-end))

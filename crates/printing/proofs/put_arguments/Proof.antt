@@ -1,4 +1,4 @@
--- `text::put_arguments` is safe and ends: the place rises to the arity. Assumes nothing.
+-- `printing::put_arguments` is safe and ends: the place rises to the arity. Assumes nothing.
 use borrow.Author.Needs.{needs}
 use Prim.Native.Nat.{_≤_, _-_}
 use Rattle.printing.proofs.put_arguments.Statement.{statement}

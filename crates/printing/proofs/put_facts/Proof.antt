@@ -1,4 +1,4 @@
--- `text::put_facts` is safe and ends: each record lies within the slice, and the place rises to the length.
+-- `printing::put_facts` is safe and ends: each record lies within the slice, and the place rises to the length.
 -- Assumes nothing.
 use borrow.Author.Needs.{needs}
 use Prim.Native.Nat.{_≤_, _-_}

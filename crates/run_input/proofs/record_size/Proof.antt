@@ -1,4 +1,4 @@
--- `input::record_size` meets its contract: the size of the kind. Assumes nothing.
+-- `run_input::record_size` meets its contract: the size of the kind. Assumes nothing.
 use mathlib.Core.Path.{ap, _∙_}
 use borrow.Author.Needs.{needs}
 use Rattle.model.specs.Records.{sizeOf}

@@ -1,4 +1,4 @@
--- `input::table_end` meets its contract. The invariant: what is left of the records answers for the whole input. Assumes nothing.
+-- `run_input::table_end` meets its contract. The invariant: what is left of the records answers for the whole input. Assumes nothing.
 use native.Mathlib.Omega.{arith}
 use borrow.Author.Needs.{needs}
 use Rattle.run_input.proofs.Turns.{Left, first, out, ended, end-record, unknown, cut, next}

@@ -1,12 +1,10 @@
 -- `variables::mark_slot` meets its contract: one arm a slot.
 use borrow.Author.Needs.{needs}
-use Rattle.records.specs.Named.{marked}
-use Rattle.records.proofs.Marks.{variable-small}
+use Rattle.records.proofs.Marks.{variable-small, unused-marked, constant-marked, variable-marked, bad-marked}
 use Rattle.records.proofs.variables.mark_slot.Statement.{statement}
 use Rattle.records.proofs.variables.mark_slot.Tie as tie
 
 pub mark-slot-spec : {M : Type 1} → statement M
-unfolding marked
 mark-slot-spec =
     tie.close
     (tie.spec
@@ -15,9 +13,9 @@ mark-slot-spec =
     (λ c. search needs)
     (λ c. search needs)
     (λ c. search needs)
-    (λ c. variable-small _ _ (c .before .before .before .slot-at .ensures) (c .before .slot .given .1))
+    (λ c. search variable-small)
     (λ c. search needs)
-    (λ c. rw (← c .before .before .slot-at .ensures, c .enum-told .given .1))
-    (λ c. rw (← c .before .before .slot-at .ensures, c .enum-told2 .given .1))
-    (λ c. rw (← c .before .before .before .slot-at .ensures, c .before .slot .given .1))
-    (λ c. rw (← c .before .before .slot-at .ensures, c .enum-told3 .given .1)))
+    (λ c. search unused-marked)
+    (λ c. search constant-marked)
+    (λ c. search variable-marked)
+    (λ c. search bad-marked))

@@ -7,191 +7,213 @@ use Prim.Native.Nat.{ℕ, _<_, _-_}
 use native.Mathlib.Omega.{arith}
 use borrow.Fn.Kinds.{In}
 use borrow.Fn.PlainCycle.{Measures, is, falls, and}
-use Rattle.search.proofs.Seeking.{Trying, tried-out, passed-over, no-match, found-nothing, found-applies, found-stuck, from-few, place-few, some-left}
-use Rattle.search.proofs.Seeking.{seat-back, ready-judge, judged-last, head-in, tries, ready-next, chosen-held}
+use Rattle.search.proofs.Seeking.{Trying, tried-out, passed-over, no-match, found-nothing, found-applies, found-stuck, from-few, place-few}
+use Rattle.search.proofs.Seeking.{seat, seat-back, ready-judge, judged-last, more-few, head-inside, tries, ready-next, chosen-held}
+use Rattle.search.proofs.partners.+seek.{statement}
+use Rattle.search.proofs.partners.+seek.Tie.{close}
 use Rattle.search.proofs.partners.seek.Reads as seek
 use Rattle.search.proofs.partners.seek.Kinds as seek-kinds
 use Rattle.search.proofs.partners.+seek.Lts-seek as seek-lts
 use Rattle.search.proofs.partners.candidate.Reads as candidate-reads
 use Rattle.search.proofs.partners.judge.Reads as judge-reads
 use Rattle.search.proofs.partners.partner_from.Reads as partner-from-reads
-use Rattle.search.proofs.probing.passes.Reads as passes-reads
-use Rattle.search.proofs.probing.probe.Reads as probe-reads
-use Rattle.search.proofs.partners.+seek.{statement}
-use Rattle.search.proofs.partners.+seek.Tie.{close}
+use Rattle.matching.proofs.probing.passes.Reads as passes-reads
+use Rattle.matching.proofs.probing.probe.Reads as probe-reads
+use Rattle.records.proofs.geometry.head_start.Reads as head-start-reads
 
 abbrev μ-seek : Measures 6 seek-kinds.ps ℕ
 μ-seek κs a = a .1 .0
 
 abbrev seek-at : ℕ → In 6 seek-kinds.ps
-seek-at t = and 6 seek-kinds.ps (is 6 seek-kinds.ps μ-seek t) seek.Pre
+seek-at n = and 6 seek-kinds.ps (is 6 seek-kinds.ps μ-seek n) seek.Pre
 
 abbrev seek-below : ℕ → In 6 seek-kinds.ps
-seek-below t = and 6 seek-kinds.ps (falls 6 seek-kinds.ps _<_ μ-seek t) seek.Pre
+seek-below n = and 6 seek-kinds.ps (falls 6 seek-kinds.ps _<_ μ-seek n) seek.Pre
 
 abbrev seek-Inv-loop : seek-lts.InvT-loop
-seek-Inv-loop t left from q past symbols ids args chosen₀ values₀ bound₀ active head k p fewer more probe n i₀ chosen values bound i =
-    Trying t q past symbols ids args k chosen₀ chosen values₀ values bound₀ bound i
+seek-Inv-loop t left from q past symbols ids args chosen₀ values₀ bound₀ head k p fewer more probe n i₀ chosen values bound i =
+    Trying t q past symbols ids args left k p probe chosen₀ chosen values₀ values bound₀ bound i
 
 abbrev seek-μ-loop : seek-lts.MeasureT-loop
-seek-μ-loop t left from q past symbols ids args chosen₀ values₀ bound₀ active head k p fewer more probe n i₀ chosen values bound i = n - i
+seek-μ-loop t left from q past symbols ids args chosen₀ values₀ bound₀ head k p fewer more probe n i₀ chosen values bound i = n - i
 
-pub +seek-spec : {M : Type 1} → statement M
-+seek-spec = close μ-seek λ t. seek-lts.spec (
+-- the contracts of what is called, n partners being left
+abbrev called : ℕ → seek-lts.Claims
+called n = (
   partner-from-reads.Asked,
   partner-from-reads.Learnt,
   judge-reads.Asked,
   judge-reads.Learnt,
+  head-start-reads.Asked,
+  head-start-reads.Learnt,
   probe-reads.Asked,
   probe-reads.Learnt,
   passes-reads.Asked,
   passes-reads.Learnt,
   candidate-reads.Asked,
   candidate-reads.Learnt,
-  seek-below t,
+  seek-below n,
   seek.Post,
 )
-    (seek-at t)
+
+-- ---- the points of the function that the answers cite, each from a later one
+
+module _ (n : ℕ) where
+  -- the function is asked, and its head place is known
+  abbrev Start : Type 0
+  Start = seek-lts.Start (called n) (seek-at n) seek.Post seek-Inv-loop seek-μ-loop
+
+  abbrev PlaceKnown : Type 0
+  PlaceKnown = seek-lts.After-struct-known (called n) (seek-at n) seek.Post seek-Inv-loop seek-μ-loop
+
+  abbrev asked : PlaceKnown → Start
+  asked c = c .before .before
+
+  -- no partner is left, and the judge is called
+  abbrev NoneLeft : Type 0
+  NoneLeft = seek-lts.Then1 (called n) (seek-at n) seek.Post seek-Inv-loop seek-μ-loop
+
+  abbrev JudgeAsked : Type 0
+  JudgeAsked = seek-lts.After-judge-arg3 (called n) (seek-at n) seek.Post seek-Inv-loop seek-μ-loop
+
+  abbrev none-left : JudgeAsked → NoneLeft
+  none-left c = c .before .before .before
+
+  -- some partner is left, and it is known where its head stands
+  abbrev SomeLeft : Type 0
+  SomeLeft = seek-lts.Else1 (called n) (seek-at n) seek.Post seek-Inv-loop seek-μ-loop
+
+  abbrev HeadKnown : Type 0
+  HeadKnown = seek-lts.After-head-start (called n) (seek-at n) seek.Post seek-Inv-loop seek-μ-loop
+
+  abbrev some-left : HeadKnown → SomeLeft
+  some-left c = c .before
+
+  -- the head is probed
+  abbrev ProbeAsked : Type 0
+  ProbeAsked = seek-lts.After-probe-arg2 (called n) (seek-at n) seek.Post seek-Inv-loop seek-μ-loop
+
+  abbrev head-known : ProbeAsked → HeadKnown
+  head-known c = c .before .before
+
+  -- a turn of the loop, from its start to the call of `candidate`
+  abbrev Turn : Type 0
+  Turn = seek-lts.In-loop (called n) (seek-at n) seek.Post seek-Inv-loop seek-μ-loop
+
+  abbrev CandidateAsked : Type 0
+  CandidateAsked = seek-lts.After-b2 (called n) (seek-at n) seek.Post seek-Inv-loop seek-μ-loop
+
+  abbrev turn : CandidateAsked → Turn
+  turn c = c .before .before .before .before .before .before .before
+
+  -- a row that matches, and the search behind it
+  abbrev Matched : Type 0
+  Matched = seek-lts.Then3 (called n) (seek-at n) seek.Post seek-Inv-loop seek-μ-loop
+
+  abbrev SeekAsked : Type 0
+  SeekAsked = seek-lts.After-b3 (called n) (seek-at n) seek.Post seek-Inv-loop seek-μ-loop
+
+  abbrev matched : SeekAsked → Matched
+  matched c = c .before .before .before .before
+
+  abbrev turn-of : Matched → Turn
+  turn-of c = turn (c .before .before)
+
+  -- the next partner's head, as a turn knows it
+  abbrev known : Turn → seek-lts.After-partner-from (called n) (seek-at n) seek.Post seek-Inv-loop seek-μ-loop
+  known c = some-left (head-known (c .before .before .before)) .before
+
+pub +seek-spec : {M : Type 1} → statement M
++seek-spec = close μ-seek λ n. seek-lts.spec
+    (called n)
+    (seek-at n)
     seek.Post
     seek-Inv-loop
     seek-μ-loop
     (λ c. search needs)
     (λ c. search (place-few, needs))
     (λ c. search (place-few, needs))
-    (λ c κs. from-few (c .before .before .before .before .pre .1))
+    (λ c κs. from-few (asked n c .pre .1))
     (λ c κs.
-    let at-if1 = c .before .before .before in
-    let at-partner-from = at-if1 .before in
-    let at-pre = at-partner-from .before .before .before .before .before in
-    ready-judge (at-pre .pre .1) refl (at-partner-from .partner-from .ensures) (at-if1 .if1 .taken))
+    let last = none-left n c in
+    let k = last .before in
+    ready-judge (seat (asked n (k .before) .pre .1) refl (k .partner-from .ensures)) (last .if1 .taken))
     (λ c.
-    let at-if1 = c .before .before .before .before in
-    let at-partner-from = at-if1 .before in
-    let at-pre = at-partner-from .before .before .before .before .before in
-    judged-last (at-pre .pre .1) refl (at-partner-from .partner-from .ensures) (at-if1 .if1 .taken) _ _ _ (c .judge .ensures))
-    (λ c. search needs)
-    (λ c. search needs)
-    (λ c.
-    let at-if1 = c .before .before in
-    let at-partner-from = at-if1 .before in
-    let at-pre = at-partner-from .before .before .before .before .before in
-    omega (arith, some-left (at-pre .pre .1) refl (at-partner-from .partner-from .ensures) (at-if1 .if1 .left), at-pre .pre .1 .fewHeads))
-    (λ c.
-    let at-if1 = c .before .before in
-    let at-partner-from = at-if1 .before in
-    let at-pre = at-partner-from .before .before .before .before .before in
-    omega (arith, head-in (at-pre .pre .1) refl (at-partner-from .partner-from .ensures) (at-if1 .if1 .left)))
-    (λ c. search needs)
-    (λ c.
-    let at-if1 = c .before .before in
-    let at-partner-from = at-if1 .before in
-    let at-pre = at-partner-from .before .before .before .before .before in
-    omega (arith, some-left (at-pre .pre .1) refl (at-partner-from .partner-from .ensures) (at-if1 .if1 .left), at-pre .pre .1 .fewHeads))
+    let last = none-left n (c .before) in
+    let k = last .before in
+    judged-last (asked n (k .before) .pre .1) refl (k .partner-from .ensures) _ _ _ _ (last .if1 .taken) (c .judge .ensures))
     (λ c κs.
-    let at-if1 = c .before .before .before .before in
-    let at-partner-from = at-if1 .before in
-    let at-pre = at-partner-from .before .before .before .before .before in
-    head-in (at-pre .pre .1) refl (at-partner-from .partner-from .ensures) (at-if1 .if1 .left))
+    let k = c .before in
+    omega (arith, more-few (seat (asked n (k .before) .pre .1) refl (k .partner-from .ensures)) (c .if1 .left)))
+    (λ c. search needs)
     (λ c.
-    let at-if1 = c .before .before .before .before .before in
-    let at-partner-from = at-if1 .before in
-    let at-pre = at-partner-from .before .before .before .before .before in
-    tries (at-pre .pre .1) refl (at-partner-from .partner-from .ensures) (at-if1 .if1 .left))
+    let some = some-left n c in
+    let k = some .before in
+    omega (arith, more-few (seat (asked n (k .before) .pre .1) refl (k .partner-from .ensures)) (some .if1 .left)))
+    (λ c κs.
+    let head = head-known n c in
+    let some = some-left n head in
+    let k = some .before in
+    head-inside (seat (asked n (k .before) .pre .1) refl (k .partner-from .ensures)) (some .if1 .left) (head .head-start .ensures))
+    (λ c.
+    let head = head-known n (c .before) in
+    let some = some-left n head in
+    let k = some .before in
+    tries (seat (asked n (k .before) .pre .1) refl (k .partner-from .ensures)) (some .if1 .left) (head .head-start .ensures) (c .probe .ensures))
     (λ c. search needs)
     (λ c κs. search needs)
-    (λ c κs. (
-      let at-if1 = c .before .before .before .before .before .before .before .before .before .before .before .before .before .before in
-          let at-partner-from = at-if1 .before in
-          head-in (at-partner-from .before .before .before .before .before .pre .1) refl (at-partner-from .partner-from .ensures) (at-if1 .if1 .left),
-      (
-        search needs,
-        let at-loop = c .before .before .before .before .before .before .before .before in
-            let at-if1 = at-loop .before .before .before .before .before .before in let at-partner-from = at-if1 .before in
-            chosen-held (at-partner-from .before .before .before .before .before .pre .1) refl (at-partner-from .partner-from .ensures)
-            (at-if1 .if1 .left) _ (at-loop .loop .inv .whole),
-      ),
-    ))
-    (λ c. search (
-      c .before .before .before .before .before .before .before .before .before .before .before .before .before .before .before .before .before
-          .before .before .before .before .before .pre .1 .fewStored,
-      needs,
-    ))
-    (λ c. search (
-      c .before .before .before .before .before .before .before .before .before .before .before .before .before .before .before .before .before
-          .before .before .before .before .before .pre .1 .fewStored,
-      needs,
-    ))
+    (λ c κs.
+    let inv = turn n c .before .loop .inv in
+    (inv .inside, (search (inv .fewStored, needs), chosen-held inv)))
+    (λ c. search (turn-of n c .before .loop .inv .fewStored, needs))
+    (λ c. search (turn-of n c .before .loop .inv .fewStored, needs))
     (λ c.
-    let at-loop = c .before .before .before .before .before .before .before .before .before .before .before in
-    let at-pre = at-loop .before .before .before .before .before .before .before .before .before .before .before .before in
-    omega (arith, at-loop .loop .inv .more, at-pre .pre .1 .fewHeads))
+    let inv = turn-of n (c .before) .before .loop .inv in
+    omega (arith, inv .more, inv .fewHeads))
     (λ c.
-    let at-loop = c .before .before .before .before .before .before .before .before .before .before .before in
-    let at-pre = at-loop .before .before .before .before .before .before .before .before .before .before .before .before in
-    omega (arith, at-loop .loop .inv .more, at-pre .pre .1 .fewHeads, at-loop .loop .inv .whole))
-    (λ c κs. (
-      search (
-        c .before .before .before .before .before .before .before .before .before .before .before .before .before .before .before .before .before
-            .before .before .before .before .before .before .before .before .before .pre .0,
-        needs,
-      ),
-      let at-loop = c .before .before .before .before .before .before .before .before .before .before .before .before .before .before in
-          let at-if1 = at-loop .before .before .before .before .before .before in
-          let at-partner-from = at-if1 .before in
-          ready-next (at-partner-from .before .before .before .before .before .pre .1) refl (at-partner-from .partner-from .ensures) (at-if1 .if1 .left) _ _
-          (at-loop .loop .inv .whole) (at-loop .loop .inv .kept),
-    ))
+    let inv = turn-of n (c .before) .before .loop .inv in
+    omega (arith, inv .more, inv .fewHeads, inv .whole))
+    (λ c κs.
+    let here = turn-of n (matched n c) in
+    let inv = here .before .loop .inv in
+    (search (asked n (known n here .before) .pre .0, inv .anyLeft, needs), ready-next inv _))
     (λ c. search needs)
     (λ c.
-    let at-seek = c .before .before in
-    let at-if3 = at-seek .before .before .before .before .before in
-    let at-candidate = at-if3 .before in
-    let at-loop-test = at-candidate .before .before .before .before .before .before .before .before in
-    let at-loop = at-loop-test .before in
-    let at-partner-from = at-loop .before .before .before .before .before .before .before in
-    let at-pre = at-partner-from .before .before .before .before .before in
-    seat-back (at-pre .pre .1) refl (at-partner-from .partner-from .ensures) _ _ _ _
-    (found-applies _ _ _ _ _ _ _ _ _ _ (at-loop .loop .inv) (at-loop-test .loop-test .taken) _ _ _ (at-candidate .candidate .ensures)
-    (at-if3 .if3 .taken) (at-pre .pre .1 .fewHeads) (at-seek .seek .ensures) (c .enum-told .given .1)))
+    let s = c .before .before in
+    let m = matched n (s .before) in
+    let here = turn-of n m in
+    let k = known n here in
+    seat-back (asked n (k .before) .pre .1) refl (k .partner-from .ensures) _ _ _ _
+    (found-applies (here .before .loop .inv) (here .loop-test .taken) _ _ _ (m .before .candidate .ensures) (m .if3 .taken) (s .seek .ensures)
+    (c .enum-told .given .1)))
     (λ c. search needs)
     (λ c.
-    let at-seek = c .before .before in
-    let at-if3 = at-seek .before .before .before .before .before in
-    let at-candidate = at-if3 .before in
-    let at-loop-test = at-candidate .before .before .before .before .before .before .before .before in
-    let at-loop = at-loop-test .before in
-    let at-partner-from = at-loop .before .before .before .before .before .before .before in
-    let at-pre = at-partner-from .before .before .before .before .before in
-    seat-back (at-pre .pre .1) refl (at-partner-from .partner-from .ensures) _ _ _ _
-    (found-stuck _ _ _ _ _ _ _ _ _ _ (at-loop .loop .inv) (at-loop-test .loop-test .taken) _ _ _ (at-candidate .candidate .ensures) (at-if3 .if3 .taken)
-    (at-pre .pre .1 .fewHeads) (at-seek .seek .ensures) (c .enum-told2 .given .1) _))
+    let s = c .before .before in
+    let m = matched n (s .before) in
+    let here = turn-of n m in
+    let k = known n here in
+    seat-back (asked n (k .before) .pre .1) refl (k .partner-from .ensures) _ _ _ _
+    (found-stuck (here .before .loop .inv) (here .loop-test .taken) _ _ _ (m .before .candidate .ensures) (m .if3 .taken) (s .seek .ensures)
+    (c .enum-told2 .given .1) _))
     (λ c. search needs)
     (λ c. search needs)
     (λ c.
-    let at-seek = c .before .before in
-    let at-if3 = at-seek .before .before .before .before .before in
-    let at-candidate = at-if3 .before in
-    let at-loop-test = at-candidate .before .before .before .before .before .before .before .before in
-    let at-loop = at-loop-test .before in
-    let at-pre = at-loop .before .before .before .before .before .before .before .before .before .before .before .before in
-    found-nothing _ _ _ _ _ _ _ _ _ _ (at-loop .loop .inv) (at-loop-test .loop-test .taken) _ _ _ (at-candidate .candidate .ensures) (at-if3 .if3 .taken)
-    (at-pre .pre .1 .fewHeads) (at-seek .seek .ensures) (c .enum-told3 .given .1))
+    let s = c .before .before in
+    let m = matched n (s .before) in
+    let here = turn-of n m in
+    found-nothing (here .before .loop .inv) (here .loop-test .taken) _ _ _ (m .before .candidate .ensures) (m .if3 .taken) (s .seek .ensures)
+    (c .enum-told3 .given .1))
     (λ c. search needs)
     (λ c.
-    let at-candidate = c .before in
-    let at-loop-test = at-candidate .before .before .before .before .before .before .before .before in
-    let at-loop = at-loop-test .before in
-    no-match _ _ _ _ _ _ _ _ _ _ (at-loop .loop .inv) (at-loop-test .loop-test .taken) _ _ _ (at-candidate .candidate .ensures) (c .if3 .left))
+    let tried = c .before in
+    let here = turn n (tried .before) in
+    no-match (here .before .loop .inv) (here .loop-test .taken) _ _ _ (tried .candidate .ensures) (c .if3 .left))
     (λ c. search needs)
     (λ c.
-    let at-passes = c .before in
-    let at-loop-test = at-passes .before in
-    let at-loop = at-loop-test .before in
-    let at-probe = at-loop .before in
-    passed-over _ _ _ _ _ _ _ _ _ _ (at-loop .loop .inv) (at-loop-test .loop-test .taken) _ (at-probe .probe .ensures) (at-passes .passes .ensures)
-    (c .if2 .left))
+    let tested = c .before in
+    let here = tested .before in
+    passed-over (here .before .loop .inv) (here .loop-test .taken) (tested .passes .ensures) (c .if2 .left))
     (λ c.
-    let at-loop = c .before in
-    let at-partner-from = at-loop .before .before .before .before .before .before .before in
-    let at-pre = at-partner-from .before .before .before .before .before in
-    seat-back (at-pre .pre .1) refl (at-partner-from .partner-from .ensures) _ _ _ _ (tried-out _ _ _ _ _ _ _ _ _ _ (at-loop .loop .inv) (c .loop-test .left)))
+    let head = head-known n (c .before .before .before) in
+    let k = some-left n head .before in
+    seat-back (asked n (k .before) .pre .1) refl (k .partner-from .ensures) _ _ _ _ (tried-out (c .before .loop .inv) (c .loop-test .left)))

@@ -1,6 +1,6 @@
 -- `search::partners::candidate` meets its contract: the tests for the active fact and the chosen ones come before the match, as in the definition.
-use Rattle.search.proofs.Seeking.{row-active, row-chosen, row-matches}
 use borrow.Author.Needs.{needs}
+use Rattle.search.proofs.Seeking.{row-active, row-chosen, row-matches}
 use Rattle.search.proofs.partners.candidate.Statement.{statement}
 use Rattle.search.proofs.partners.candidate.Tie as tie
 

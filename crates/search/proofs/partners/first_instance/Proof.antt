@@ -1,6 +1,7 @@
 -- `search::partners::first_instance` meets its contract: the active fact is looked up, matched at its place, and the partners are sought from there.
-use Rattle.search.proofs.Seeking.{own-head-in, row-in, sought-first, no-place, not-stored}
 use borrow.Author.Needs.{needs}
+use Rattle.search.proofs.Seeking.{own-head-in, sought-first, no-place, not-stored}
+use Rattle.store.proofs.Looked.{row-in}
 use Rattle.search.proofs.partners.first_instance.Statement.{statement}
 use Rattle.search.proofs.partners.first_instance.Tie as tie
 
@@ -13,20 +14,11 @@ enum-known-found c = search needs
 cast-heads : tie.Need-cast-heads
 cast-heads c = search needs
 
-cast-at : tie.Need-cast-at
-cast-at c = search needs
+cast-head-start : tie.Need-cast-head-start
+cast-head-start c = search needs
 
-add-at : tie.Need-add-at
-add-at c = search needs
-
-cast-at-2 : tie.Need-cast-at-2
-cast-at-2 c = search needs
-
-mul-at : tie.Need-mul-at
-mul-at c = search needs
-
-add-at-2 : tie.Need-add-at-2
-add-at-2 c = search needs
+head-start-requires : tie.Need-head-start-requires
+head-start-requires c κs = search needs
 
 match-head-requires : tie.Need-match-head-requires
 match-head-requires c κs = search (own-head-in, row-in, needs)
@@ -56,11 +48,8 @@ first-instance-spec =
     row-of-requires
     enum-known-found
     cast-heads
-    cast-at
-    add-at
-    cast-at-2
-    mul-at
-    add-at-2
+    cast-head-start
+    head-start-requires
     match-head-requires
     sub-seek
     seek-requires

@@ -1,6 +1,6 @@
 -- `search::partners::judge` meets its contract: the history is tested before the guard decides.
-use Rattle.search.proofs.Seeking.{seen-before, guard-holds, guard-fails, guard-stuck}
 use borrow.Author.Needs.{needs}
+use Rattle.search.proofs.Seeking.{seen-before, guard-holds, guard-fails, guard-stuck}
 use Rattle.search.proofs.partners.judge.Statement.{statement}
 use Rattle.search.proofs.partners.judge.Tie as tie
 
@@ -13,20 +13,8 @@ recorded-requires c κs = search needs
 returns : tie.Need-returns
 returns c = search seen-before
 
-cast-at : tie.Need-cast-at
-cast-at c = search needs
-
-add-at : tie.Need-add-at
-add-at c = search needs
-
-cast-at-2 : tie.Need-cast-at-2
-cast-at-2 c = search needs
-
-mul-at : tie.Need-mul-at
-mul-at c = search needs
-
-add-at-2 : tie.Need-add-at-2
-add-at-2 c = search needs
+guards-start-requires : tie.Need-guards-start-requires
+guards-start-requires c κs = search needs
 
 guard-value-requires : tie.Need-guard-value-requires
 guard-value-requires c κs = search needs
@@ -56,11 +44,7 @@ judge-spec =
     entry-requires
     recorded-requires
     returns
-    cast-at
-    add-at
-    cast-at-2
-    mul-at
-    add-at-2
+    guards-start-requires
     guard-value-requires
     enum-told
     enum-told-2

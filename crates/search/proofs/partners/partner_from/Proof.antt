@@ -1,6 +1,6 @@
 -- `search::partners::partner_from` meets its contract: one return a case of the test.
-use Rattle.search.proofs.Seeking.{from-own, from-other}
 use borrow.Author.Needs.{needs}
+use Rattle.search.proofs.Seeking.{from-own, from-other}
 use Rattle.search.proofs.partners.partner_from.Statement.{statement}
 use Rattle.search.proofs.partners.partner_from.Tie as tie
 

@@ -1,8 +1,8 @@
 -- `record::behind` meets its contract: one arm a kind.
 use native.Mathlib.Omega.{arith}
 use borrow.Author.Needs.{needs}
-use borrow.Author.Tests.{leb-false}
 use Rattle.model.specs.Reading.{behind}
+use Rattle.table.proofs.Counts.{symbol-few, rule-few, kept-few, removed-few, guard-few, fact-few, fail-few}
 use Rattle.table.proofs.record.behind.Statement.{statement}
 use Rattle.table.proofs.record.behind.Tie as tie
 
@@ -12,23 +12,23 @@ behind-spec =
     tie.close
     (tie.spec
     (λ c. search needs)
-    (λ c κs. (leb-false 32 (c .before .before .before .args .s .symbols) (rw (c .enum-told .given .1) at (c .before .before .before .pre .0)), omega arith))
+    (λ c κs. (search symbol-few, omega arith))
     (λ c. search needs)
-    (λ c κs. (leb-false 64 (c .before .before .before .args .s .rules) (rw (c .enum-told2 .given .1) at (c .before .before .before .pre .0)), omega arith))
+    (λ c κs. (search rule-few, omega arith))
     (λ c. search needs)
-    (λ c κs. leb-false 4 (c .before .before .before .args .s .shape .heads) (rw (c .enum-told3 .given .1) at (c .before .before .before .pre .0)))
+    (λ c κs. search kept-few)
     (λ c κs. omega arith)
     (λ c. search needs)
-    (λ c κs. leb-false 4 (c .before .before .before .args .s .shape .heads) (rw (c .enum-told4 .given .1) at (c .before .before .before .pre .0)))
+    (λ c κs. search removed-few)
     (λ c κs. omega arith)
     (λ c. search needs)
-    (λ c κs. leb-false 4 (c .before .before .before .args .s .shape .guards) (rw (c .enum-told5 .given .1) at (c .before .before .before .pre .0)))
+    (λ c κs. search guard-few)
     (λ c κs. omega arith)
     (λ c. search needs)
-    (λ c κs. leb-false 4 (c .before .before .before .args .s .shape .items) (rw (c .enum-told6 .given .1) at (c .before .before .before .pre .0)))
+    (λ c κs. search fact-few)
     (λ c κs. omega arith)
     (λ c. search needs)
-    (λ c κs. leb-false 4 (c .before .before .before .args .s .shape .items) (rw (c .enum-told7 .given .1) at (c .before .before .before .pre .0)))
+    (λ c κs. search fail-few)
     (λ c κs. omega arith)
     (λ c. search needs)
     (λ c. omega arith)

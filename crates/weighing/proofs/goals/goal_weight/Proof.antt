@@ -8,7 +8,8 @@ use Rattle.weighing.proofs.goals.goal_weight.Statement.{statement}
 use Rattle.weighing.proofs.goals.goal_weight.Tie as tie
 
 abbrev Inv-loop : tie.InvT-loop
-Inv-loop weights goal sum₀ p₀ left₀ sum p left = Left 255 18 16320 1152 (goalWeight (weightIn weights) (goalOf goal)) (goalWeight (weightIn weights) (factsFrom goal p left)) sum p left
+Inv-loop weights goal sum₀ p₀ left₀ sum p left =
+    Left 255 18 16320 1152 (goalWeight (weightIn weights) (goalOf goal)) (goalWeight (weightIn weights) (factsFrom goal p left)) sum p left
 
 abbrev μ-loop : tie.MeasureT-loop
 μ-loop weights goal sum₀ p₀ left₀ sum p left = left

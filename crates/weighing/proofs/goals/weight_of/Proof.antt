@@ -12,5 +12,7 @@ weight-of-spec =
     (λ c. search needs)
     (λ c. search needs)
     (λ c. omega (arith, c .shared-slice-known .given (c .before .before .before .args .symbol .0)))
-    (λ c. weight-given (c .before .before .before .args .weights .now) _ (c .before .if1 .taken) (c .shared-slice-known .given (c .before .before .before .args .symbol .0) .fits))
-    (λ c. weight-missing (c .before .before .args .weights .now) _ (c .if1 .left)))
+    (λ c.
+    weight-given (c .before .before .before .args .weights .now) _ (c .before .if1 .taken)
+    (c .shared-slice-known .given (c .before .before .before .args .symbol .0) .fits))
+    (λ c. search weight-missing))

@@ -1,14 +1,17 @@
 -- `heads::heads_weight` meets its contract: each turn weighs one head.
 use native.Mathlib.Omega.{arith}
 use borrow.Author.Needs.{needs}
+use lib.ListN.{length}
 use Rattle.model.specs.Table.{headsFrom}
 use Rattle.model.specs.Weights.{weightIn, headsWeight}
-use Rattle.weighing.proofs.Parts.{Left, ended, heads-none, head-weighed}
+use Rattle.weighing.proofs.Parts.{Left, ended, heads-begin, heads-none, head-weighed}
 use Rattle.weighing.proofs.heads.heads_weight.Statement.{statement}
 use Rattle.weighing.proofs.heads.heads_weight.Tie as tie
 
 abbrev Inv-loop : tie.InvT-loop
-Inv-loop table weights from heads sum₀ p₀ left₀ sum p left = Left 255 22 1020 23769 (headsWeight (weightIn weights) (headsFrom table from heads)) (headsWeight (weightIn weights) (headsFrom table p left)) sum p left
+Inv-loop table weights from heads sum₀ p₀ left₀ sum p left =
+    Left 255 22 1020 (length table) (headsWeight (weightIn weights) (headsFrom table from heads)) (headsWeight (weightIn weights) (headsFrom table p left))
+    sum p left
 
 abbrev μ-loop : tie.MeasureT-loop
 μ-loop table weights from heads sum₀ p₀ left₀ sum p left = left
@@ -19,7 +22,7 @@ heads-weight-spec =
     (tie.spec
     Inv-loop
     μ-loop
-    (λ c. record { same = omega arith; few = omega arith; near = omega arith })
+    (λ c. search heads-begin)
     (λ c. omega arith)
     (λ c. omega arith)
     (λ c κs. search needs)

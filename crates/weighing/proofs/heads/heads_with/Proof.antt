@@ -1,14 +1,16 @@
 -- `heads::heads_with` meets its contract: each turn looks at one head.
 use native.Mathlib.Omega.{arith}
 use borrow.Author.Needs.{needs}
+use lib.ListN.{length}
 use Rattle.model.specs.Table.{headsFrom}
 use Rattle.weighing.specs.Views.{headsWith}
-use Rattle.weighing.proofs.Parts.{Left, ended, with-none, head-same, head-other}
+use Rattle.weighing.proofs.Parts.{Left, ended, with-begins, with-none, head-same, head-other}
 use Rattle.weighing.proofs.heads.heads_with.Statement.{statement}
 use Rattle.weighing.proofs.heads.heads_with.Tie as tie
 
 abbrev Inv-loop : tie.InvT-loop
-Inv-loop table from heads symbol count₀ p₀ left₀ count p left = Left 1 22 4 23769 (headsWith symbol (headsFrom table from heads)) (headsWith symbol (headsFrom table p left)) count p left
+Inv-loop table from heads symbol count₀ p₀ left₀ count p left =
+    Left 1 22 4 (length table) (headsWith symbol (headsFrom table from heads)) (headsWith symbol (headsFrom table p left)) count p left
 
 abbrev μ-loop : tie.MeasureT-loop
 μ-loop table from heads symbol count₀ p₀ left₀ count p left = left
@@ -19,7 +21,7 @@ heads-with-spec =
     (tie.spec
     Inv-loop
     μ-loop
-    (λ c. record { same = omega arith; few = omega arith; near = omega arith })
+    (λ c. search with-begins)
     (λ c. omega arith)
     (λ c. omega arith)
     (λ c κs. search needs)

@@ -8,13 +8,5 @@ pub loses-weight-spec : {M : Type 1} → statement M
 loses-weight-spec =
     tie.close
     (tie.spec
-    (λ c. search needs)
-    (λ c. search needs)
-    (λ c. search needs)
-    (λ c. search needs)
-    (λ c. search needs)
-    (λ c. search needs)
     (λ c κs. search needs)
-    (λ c κs. search needs)
-    (λ c κs. search needs)
-    (λ c. search (rule-loses, needs)))
+    (λ c. search rule-loses))

@@ -5,7 +5,7 @@ use Prim.Native.Nat.{_-_}
 use lib.ListN.{drop}
 use Rattle.model.specs.Table.{tableOf}
 use Rattle.model.specs.Weights.{mostFacts}
-use Rattle.weighing.proofs.Turns.{Most, few-rules, lies, more-facts, no-more-facts, facts-done}
+use Rattle.weighing.proofs.Turns.{Most, rule-among, lies, more-facts, no-more-facts, facts-done}
 use Rattle.weighing.proofs.rules.most_facts.Statement.{statement}
 use Rattle.weighing.proofs.rules.most_facts.Tie as tie
 
@@ -24,11 +24,11 @@ most-facts-spec =
     (λ c. search needs)
     (λ c. record { same = omega arith; few = omega arith })
     (λ c. search needs)
-    (λ c. omega (arith, few-rules (c .before .before .before .pre)))
+    (λ c. search rule-among)
     (λ c. omega arith)
-    (λ c κs. lies (c .before .before .before .before .pre) (c .before .loop-test .taken))
+    (λ c κs. search lies)
     (λ c. omega arith)
-    (λ c. more-facts (c .before .before .before .before .before .before .pre) (c .before .before .before .before .loop .inv) (c .before .before .before .loop-test .taken) (c .before .rule-facts .ensures) (c .if1 .taken))
+    (λ c. search more-facts)
     (λ c. omega arith)
-    (λ c. no-more-facts (c .before .before .before .before .before .before .pre) (c .before .before .before .before .loop .inv) (c .before .before .before .loop-test .taken) (c .before .rule-facts .ensures) (c .if1 .left))
-    (λ c. facts-done (c .before .before .before .pre) (c .before .loop .inv) (c .loop-test .left)))
+    (λ c. search no-more-facts)
+    (λ c. search facts-done))

@@ -1,6 +1,6 @@
 -- `rules::rule_facts` meets its contract.
+use Rattle.weighing.proofs.Turns.{body-lies, rule-facts}
 use borrow.Author.Needs.{needs}
-use Rattle.weighing.proofs.Turns.{rule-facts}
 use Rattle.weighing.proofs.rules.rule_facts.Statement.{statement}
 use Rattle.weighing.proofs.rules.rule_facts.Tie as tie
 
@@ -9,5 +9,5 @@ rule-facts-spec =
     tie.close
     (tie.spec
     (λ c κs. search needs)
-    (λ c κs. search needs)
-    (λ c. search (rule-facts, needs)))
+    (λ c κs. search body-lies)
+    (λ c. search rule-facts))

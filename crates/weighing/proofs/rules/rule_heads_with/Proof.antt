@@ -1,6 +1,6 @@
 -- `rules::rule_heads_with` meets its contract.
 use borrow.Author.Needs.{needs}
-use Rattle.weighing.proofs.Turns.{rule-with}
+use Rattle.weighing.proofs.Turns.{heads-lie, rule-with}
 use Rattle.weighing.proofs.rules.rule_heads_with.Statement.{statement}
 use Rattle.weighing.proofs.rules.rule_heads_with.Tie as tie
 
@@ -8,7 +8,6 @@ pub rule-heads-with-spec : {M : Type 1} → statement M
 rule-heads-with-spec =
     tie.close
     (tie.spec
-    (λ c. search needs)
-    (λ c. search needs)
     (λ c κs. search needs)
-    (λ c. search (rule-with, needs)))
+    (λ c κs. search heads-lie)
+    (λ c. search rule-with))

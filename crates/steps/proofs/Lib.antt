@@ -1,0 +1,4 @@
+pub mod Stacked
+pub mod Pushed
+pub mod Running
+pub mod Beginning
