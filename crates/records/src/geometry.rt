@@ -5,7 +5,7 @@ ghost use Prim.Native.Nat.{_+_, _*_, _≤_, _<_};
 ghost use lib.ListN.{length};
 ghost use Rattle.model.specs.declared.Kind.the-variants.{KeptHead};
 ghost use Rattle.model.specs.Records.{sizeOf};
-ghost use Rattle.model.specs.Table.{headsStart, guardsStart, itemsStart, isFact, behindItem};
+ghost use Rattle.model.specs.Table.{headsStart, itemsStart, isFact, behindItem};
 use model::RuleShape;
 
 // ---- lengths and offsets
@@ -145,18 +145,19 @@ pub fn head_start(shape: RuleShape, k: usize) -> usize
     shape.start as usize + 1 + HeadBytes::LEN * k
 }
 
-// Where its guards start, behind its heads.
-pub fn guards_start(shape: RuleShape) -> usize
-    ensures { λ r. ⌜ r ≡ guardsStart shape ⌝ }
+// Where its guards start, behind its heads. The two fields come apart: a shape that goes by value is read in one load, which waits where
+// the shape was copied just before.
+pub fn guards_start(start: u32, heads: u8) -> usize
+    ensures { λ r. ⌜ r ≡ start + 1 + sizeOf KeptHead * heads ⌝ }
 {
-    shape.start as usize + 1 + HeadBytes::LEN * (shape.heads as usize)
+    start as usize + 1 + HeadBytes::LEN * (heads as usize)
 }
 
 // Where its body items start, behind its guards.
 pub fn items_start(shape: RuleShape) -> usize
     ensures { λ r. ⌜ r ≡ itemsStart shape ⌝ }
 {
-    guards_start(shape) + GuardBytes::LEN * (shape.guards as usize)
+    guards_start(shape.start, shape.heads) + GuardBytes::LEN * (shape.guards as usize)
 }
 
 // Whether the body item at p is a fact.

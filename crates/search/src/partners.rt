@@ -77,7 +77,7 @@ pub fn judge(
         return Trial::Nothing;
     }
     let shape = q.shape;
-    let at = geometry::guards_start(shape);
+    let at = geometry::guards_start(shape.start, shape.heads);
     let truth = values::guards::guard_value(table, at, shape.guards, values, bound);
     match truth {
         Truth::True => Trial::Applies,
