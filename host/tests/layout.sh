@@ -31,10 +31,10 @@ longer_lines() {
 functions() {
     awk '
         /^ *(pub )?(extern "C" )?fn / {
-            match($0, /^ */); indent = RLENGTH; start = FNR; name = $0
+            match($0, /^ */); last = substr($0, 1, RLENGTH) "}"; start = FNR; name = $0
             sub(/^.*fn /, "", name); sub(/[^a-z_0-9].*/, "", name)
         }
-        start && $0 == sprintf("%*s}", indent, "") { print FNR - start + 1, FILENAME, name; start = 0 }
+        start && $0 == last { print FNR - start + 1, FILENAME, name; start = 0 }
     ' crates/*/src/**/*.rt | sort --numeric-sort --reverse
 }
 

@@ -8,7 +8,7 @@ use model::Fact;
 use model::Goal;
 use model::Symbol;
 use model::Verdict;
-use records::fields;
+use records::geometry;
 use records::geometry::GoalFactBytes;
 use records::geometry::NumberBytes;
 
@@ -52,7 +52,7 @@ fn goal_fact_bad(table: &[u8], symbols: u8, goal: &[u8], p: usize) -> bool
     if symbols <= symbol {
         return true;
     }
-    let arity = fields::arity_at(table, Symbol(symbol));
+    let arity = geometry::arity_at(table, Symbol(symbol));
     later_places_bad(arity, goal, p + GoalFactBytes::ARGUMENT_0)
 }
 

@@ -4,7 +4,7 @@ use libc::STDOUT_FILENO;
 use model::Answer;
 use model::CallResult;
 use model::Symbol;
-use records::fields;
+use records::geometry;
 
 pub fn put(text: &[u8]) {
     io::write_all(STDOUT_FILENO, text);
@@ -64,7 +64,7 @@ fn put_fact(table: &[u8], fact: &[u8]) {
     let symbol = wire::byte(fact, 5);
     put_unsigned(wire::read_u32(fact, 1) as u64);
     put_next(symbol as u32);
-    put_arguments(fact, fields::arity_at(table, Symbol(symbol)));
+    put_arguments(fact, geometry::arity_at(table, Symbol(symbol)));
     put(b"\n");
 }
 

@@ -1,4 +1,3 @@
 pub mod Tests
 pub mod Constants
-pub mod Marks
 pub mod PartsLie

@@ -4,9 +4,11 @@ ghost use mathlib.Core.Path.{_≡_};
 ghost use Prim.Native.Nat.{_+_, _*_, _≤_, _<_};
 ghost use lib.ListN.{length};
 ghost use Rattle.model.specs.declared.Kind.the-variants.{KeptHead};
+ghost use Rattle.model.specs.Fields.{arityAt};
 ghost use Rattle.model.specs.Records.{sizeOf};
 ghost use Rattle.model.specs.Table.{headsStart, itemsStart, isFact, behindItem};
 use model::RuleShape;
+use model::Symbol;
 
 // ---- lengths and offsets
 
@@ -158,6 +160,16 @@ pub fn items_start(shape: RuleShape) -> usize
     ensures { λ r. ⌜ r ≡ itemsStart shape ⌝ }
 {
     guards_start(shape.start, shape.heads) + GuardBytes::LEN * (shape.guards as usize)
+}
+
+// Symbols stand first, two bytes each.
+pub fn arity_at(table: &[u8], symbol: Symbol) -> u8
+    ensures { λ r. ⌜ r ≡ arityAt (now (table .entry)) (symbol .0) ⌝ }
+{
+    wire::byte(
+        table,
+        SymbolBytes::LEN * (symbol.0 as usize) + SymbolBytes::ARITY,
+    )
 }
 
 // Whether the body item at p is a fact.

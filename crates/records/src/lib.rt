@@ -1,6 +1,4 @@
-// The parts of a table's records, and the tests of each: where they stand, kinds, slots and expressions, fields (20), variables (22).
-pub mod fields;
+// The parts of a table's records: where they stand, kinds, slots and expressions.
 pub mod geometry;
 pub mod kinds;
 pub mod slots;
-pub mod variables;

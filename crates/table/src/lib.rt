@@ -5,6 +5,7 @@ pub mod record;
 ghost use mathlib.Core.Path.{_≡_};
 ghost use Rattle.model.specs.Reading.{firstScan, noShape, ended, reading, readOf};
 ghost use Rattle.model.specs.Calls.{checkOf};
+use fields::variables;
 use model::CallResult;
 use model::Reading;
 use model::RecordStep;
@@ -12,7 +13,6 @@ use model::RuleShape;
 use model::Scan;
 use model::Table;
 use model::Verdict;
-use records::variables;
 
 fn no_shape() -> RuleShape
     ensures { λ r. ⌜ r ≡ noShape ⌝ }

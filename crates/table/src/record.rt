@@ -6,21 +6,20 @@ ghost use lib.ListN.{length};
 ghost use Rattle.model.specs.declared.Kind.the-variants.{NextSymbol};
 ghost use Rattle.model.specs.Limits.{mostSymbols, mostRules, mostHeads, mostGuards, mostItems};
 ghost use Rattle.model.specs.Records.{sizeOf, tooMany};
-ghost use Rattle.records.specs.Named.{Named};
+ghost use Rattle.fields.specs.Named.{Named};
 ghost use Rattle.model.specs.Reading.{withSymbol, withRule, withPart, withKept, withRemoved, withGuard, withItem, behind, fieldsOf, orderedOf, testedOf};
 ghost use Rattle.model.specs.Reading.{recordOf};
+use fields::variables;
 use model::Kind;
 use model::RecordStep;
 use model::Rule;
 use model::RuleShape;
 use model::Scan;
-use records::fields;
 use records::geometry::FactBytes;
 use records::geometry::GuardBytes;
 use records::geometry::HeadBytes;
 use records::geometry::SymbolBytes;
 use records::kinds;
-use records::variables;
 
 // ---- what is known behind a good record
 

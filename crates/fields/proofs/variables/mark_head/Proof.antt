@@ -1,0 +1,19 @@
+-- `variables::mark_head` meets its contract: one slot after the other.
+use borrow.Author.Needs.{needs}
+use Rattle.fields.proofs.Marks.{head-marked}
+use Rattle.fields.proofs.variables.mark_head.Statement.{statement}
+use Rattle.fields.proofs.variables.mark_head.Tie as tie
+
+pub mark-head-spec : {M : Type 1} → statement M
+mark-head-spec =
+    tie.close
+    (tie.spec
+    (λ c. search needs)
+    (λ c κs. search needs)
+    (λ c. search needs)
+    (λ c κs. search needs)
+    (λ c. search needs)
+    (λ c κs. search needs)
+    (λ c. search needs)
+    (λ c κs. search needs)
+    (λ c. search head-marked))

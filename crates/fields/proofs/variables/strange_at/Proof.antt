@@ -1,0 +1,18 @@
+-- `variables::strange_at` meets its contract: one return a test.
+use borrow.Author.Needs.{needs}
+use Rattle.fields.proofs.Marks.{is-marked, too-high, by-tag}
+use Rattle.fields.proofs.variables.strange_at.Statement.{statement}
+use Rattle.fields.proofs.variables.strange_at.Tie as tie
+
+pub strange-at-spec : {M : Type 1} → statement M
+strange-at-spec =
+    tie.close
+    (tie.spec
+    (λ c. search needs)
+    (λ c κs. search needs)
+    (λ c. search needs)
+    (λ c. search needs)
+    (λ c. search is-marked)
+    (λ c. search too-high)
+    (λ c. search needs)
+    (λ c. search by-tag))
