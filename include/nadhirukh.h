@@ -11,7 +11,7 @@
  * of a call overlap. Nothing is kept from call to call and nothing is allocated, so calls may be made from several threads at once,
  * each with its own buffers to write; they may read the same table, as long as nobody writes it meanwhile.
  *
- * Stack. Over the stored cases of this project a run took at most 21,616 bytes of machine stack on x86-64, and every other call much
+ * Stack. Over the stored cases of this project a run took at most 18,528 bytes of machine stack on x86-64, and every other call much
  * less (docs/MEASUREMENTS.md). This is measured, not proved: allow 26,624 for a run, and 6,656 for any other call.
  *
  * Linking. The archive is for x86-64, by the System V calling convention. Of the C library it needs `memcpy` and `memset` alone, so it
