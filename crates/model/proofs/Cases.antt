@@ -192,9 +192,6 @@ cases =
     ∷ case (divides (test 1 (only Y) (only (num (pos 0))))) (fact 0 (pos 1 ∷ pos 0 ∷ [])) most (0 ∷ 0 ∷ 3 ∷ 0 ∷ 1 ∷ 1 ∷ []) (stored 1 0 (pos 1 ∷ pos 0 ∷ []))
     ∷ case counts (fact 0 (pos 2147483646 ∷ [])) most (4 ∷ 0 ∷ 3 ∷ 1 ∷ 2 ∷ 1 ∷ []) []
     ∷ case negative (fact 0 (minus 1 ∷ [])) most (1 ∷ 0 ∷ 3 ∷ 1 ∷ 1 ∷ 0 ∷ []) []
-    -- the one without; the answer of 126 facts is 2,772 bytes
-    ∷ case twoB (times 42 (bare 0)) most (0 ∷ 0 ∷ 336 ∷ 42 ∷ 126 ∷ 126 ∷ []) (doubled 42 1)
-    ∷ case twoB (times 43 (bare 0)) most (5 ∷ 0 ∷ 340 ∷ 43 ∷ 128 ∷ 128 ∷ []) []
     -- the limit: as many steps as are needed, and the greatest one
     ∷ case tableA (mu 7 310) 4 (0 ∷ 0 ∷ 4 ∷ 0 ∷ 1 ∷ 1 ∷ []) (stored 1 0 (pos 7 ∷ pos 310 ∷ []))
     ∷ case tableA [] 20000000 (0 ∷ 0 ∷ 0 ∷ 0 ∷ 0 ∷ 0 ∷ []) []
@@ -223,12 +220,6 @@ cases =
     ∷ case failsFirst (fact 0 (pos 2147483647 ∷ [])) most (4 ∷ 0 ∷ 1 ∷ 0 ∷ 1 ∷ 1 ∷ []) []
     -- a freed place's identifier is not given again
     ∷ case renames (bare 0 then bare 0) most (0 ∷ 0 ∷ 8 ∷ 2 ∷ 4 ∷ 2 ∷ []) (stored 2 1 [] then stored 4 1 [])
-    -- the stack: 256 entries and then 259; 254 and then 257
-    ∷ case grows (bare 0) most (6 ∷ 0 ∷ 171 ∷ 85 ∷ 86 ∷ 1 ∷ []) []
-    ∷ case grows (times 2 (bare 0)) most (6 ∷ 0 ∷ 169 ∷ 84 ∷ 85 ∷ 1 ∷ []) []
-    -- the history: the 257th entry, of the second of five rules; and 264 entries, of which never more than eight are held
-    ∷ case (notes 5 []) (times 52 (bare 0)) most (7 ∷ 1 ∷ 615 ∷ 256 ∷ 52 ∷ 52 ∷ []) []
-    ∷ case (notes 8 (rule then removed 0 [])) (times 33 (bare 0)) most (0 ∷ 0 ∷ 594 ∷ 297 ∷ 33 ∷ 0 ∷ []) []
     -- good and refused tables
     ∷ checks tableA (refused 0 0)
     ∷ checks (9 ∷ []) (refused 16 0)
@@ -263,6 +254,17 @@ cases =
     ∷ weighs tableA (1 ∷ []) (1 ∷ []) (refused 32 0 ++ (0 ∷ 0 ∷ []))
     ∷ weighs halves (3 ∷ 1 ∷ []) (bare 0 then bare 0) (refused 0 0 ++ (6 ∷ 49 ∷ []))
     ∷ weighs negative (1 ∷ []) (fact 0 (minus 1 ∷ [])) (refused 0 0 ++ (1 ∷ 5 ∷ []))
+    -- Those of hundreds of steps come last, the shortest first: a wrong definition is found at the first case that it gets wrong.
+    -- the history: 264 entries, of which never more than eight are held
+    ∷ case (notes 8 (rule then removed 0 [])) (times 33 (bare 0)) most (0 ∷ 0 ∷ 594 ∷ 297 ∷ 33 ∷ 0 ∷ []) []
+    -- the stack: 256 entries and then 259; 254 and then 257
+    ∷ case grows (bare 0) most (6 ∷ 0 ∷ 171 ∷ 85 ∷ 86 ∷ 1 ∷ []) []
+    ∷ case grows (times 2 (bare 0)) most (6 ∷ 0 ∷ 169 ∷ 84 ∷ 85 ∷ 1 ∷ []) []
+    -- document 01's own without a star: the store; and the answer of 126 facts is 2,772 bytes
+    ∷ case twoB (times 43 (bare 0)) most (5 ∷ 0 ∷ 340 ∷ 43 ∷ 128 ∷ 128 ∷ []) []
+    ∷ case twoB (times 42 (bare 0)) most (0 ∷ 0 ∷ 336 ∷ 42 ∷ 126 ∷ 126 ∷ []) (doubled 42 1)
+    -- the history's 257th entry, of the second of five rules
+    ∷ case (notes 5 []) (times 52 (bare 0)) most (7 ∷ 1 ∷ 615 ∷ 256 ∷ 52 ∷ 52 ∷ []) []
     ∷ []
 
 -- ---- the claim
