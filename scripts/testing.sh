@@ -4,13 +4,24 @@
 # The library for C, which make_library writes.
 library=target/staticlib/libnadhirukh.a
 
+# rt starts so many checks, and waits for the longest of them before it starts the next. With twice the processors none is idle meanwhile.
+export RT_JOBS=${RT_JOBS:-$((2 * $(nproc)))}
+
+# This file, which a command that runs alone holds a lock on.
+testing=$(realpath "${BASH_SOURCE[0]}")
+
+# alone COMMAND...: tests run side by side, and apt-get, or rt in one repository, must not run beside itself.
+alone() (
+    exec 9< "$testing" && flock 9 && "$@"
+)
+
 # install_packages PACKAGE...: only root on Debian can.
 install_packages() {
     [ "$(id -u)" -eq 0 ] || return 1
     command -v apt-get > /dev/null || return 1
     echo "installing $*" >&2
     export DEBIAN_FRONTEND=noninteractive
-    apt-get -qq update && apt-get -qq install --yes --no-install-recommends "$@" > /dev/null
+    alone apt-get -qq update && alone apt-get -qq install --yes --no-install-recommends "$@" > /dev/null
 }
 
 # have COMMAND PACKAGE...: sees that a command is there, and installs the packages where it is not. Where that fails, missing says so.
@@ -24,8 +35,9 @@ have() {
     return 1
 }
 
-# Rust, for the second engine.
+# Rust, for the second engine. What cargo builds lies apart from target/, which rt ci removes while tests run beside it.
 have_rust() {
+    export CARGO_TARGET_DIR=$PWD/host/target
     have cargo cargo rustc
 }
 
@@ -74,8 +86,14 @@ quietly() {
     return 1
 }
 
-# Writes the library.
+# Writes the library, unless it is there and no crate was proved after it.
 make_library() {
+    alone fresh_library
+}
+
+fresh_library() {
+    quietly rt check nadhirukh || return
+    [ -f "$library" ] && [ -z "$(find target/stamp -newer "$library")" ] && return
     quietly rt staticlib nadhirukh
 }
 

@@ -3,7 +3,6 @@
 set -u
 cd "$(dirname "$0")/../.." || exit 2
 . scripts/testing.sh
-export CARGO_TARGET_DIR="$PWD/target/host"
 
 # The groups of cases that are stored.
 groups=(check goal run weigh find)

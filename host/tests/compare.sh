@@ -5,7 +5,6 @@
 set -u
 cd "$(dirname "$0")/../.." || exit 2
 . scripts/testing.sh
-export CARGO_TARGET_DIR="$PWD/target/host"
 
 cases=${1:-200000}
 seed=${2:-1}

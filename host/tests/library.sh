@@ -111,7 +111,7 @@ watch_gateway() {
 # The second engine's test that links the library, so that the declarations for Rust are tried as those for C are.
 rust_links() {
     have_rust || { echo "library.sh: $missing"; return 1; }
-    (cd host && CARGO_TARGET_DIR="$OLDPWD/target/host" cargo test --quiet --offline --release -j1 --features library --test library) \
+    (cd host && cargo test --quiet --offline --release -j1 --features library --test library) \
         > "$made/log" 2>&1 && grep -q '^test result: ok. [1-9]' "$made/log" && return
     cat "$made/log"
     return 1

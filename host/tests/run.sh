@@ -3,14 +3,13 @@
 set -uo pipefail
 cd "$(dirname "$0")/../.." || exit 2
 . scripts/testing.sh
-export CARGO_TARGET_DIR="$PWD/target/host"
 
 made=$(mktemp -d) || exit 2
 trap 'rm -rf "$made"' EXIT
 
 have_rust || give_up "$missing"
 have_runner || give_up "$missing"
-quietly rt check run || give_up "rt did not build the program"
+quietly alone rt check run || give_up "rt did not build the program"
 (cd host && cargo run --quiet --offline --release -j1 --bin lines -- "$made") || give_up "the second engine's lines were not written"
 
 passed=0
