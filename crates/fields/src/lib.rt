@@ -1,4 +1,4 @@
-// The tests of a record's parts: its fields (20), and its variables (22). Each record lies in the table.
+// The tests of a record's fields. Each record lies in the table.
 // 20, "bad field: arity, undeclared symbol, tag, operation, comparator, unused or used place, variable".
 ghost use mathlib.Core.Path.{_≡_};
 ghost use Prim.Native.Nat.{_+_, _≤_};
@@ -19,8 +19,6 @@ use records::geometry::HeadBytes;
 use records::geometry::SlotBytes;
 use records::geometry::SymbolBytes;
 use records::slots;
-
-pub mod variables;
 
 // A used place holds a constant or a variable; any other is zero in every byte.
 fn place_bad(used: bool, slot: Slot) -> bool

@@ -8,7 +8,7 @@ use native.Mathlib.Omega.{arith}
 use lib.ListN.{length}
 use lib.Dec.{ltb}
 use borrow.Author.Tests.{ltb-false}
-use Rattle.fields.specs.Named.{Follows, headless, head, same}
+use Rattle.variables.specs.Named.{Follows, headless, head, same}
 use Rattle.model.specs.Records.{sizeOf, earliestOf, latestOf, outOfOrder}
 use Rattle.model.specs.Reading.{behind, fieldsOf, orderedOf, testedOf, recordOf}
 use Rattle.model.specs.declared.Kind.{Kind}

@@ -16,8 +16,8 @@ use Rattle.model.specs.declared.Reading.{Reading}
 use Rattle.model.specs.declared.Verdict.{Verdict}
 use Rattle.model.specs.declared.Verdict.the-variants.{Refused}
 use Rattle.model.proofs.Good.{Sane, first-sane, at-near, noted-some, noted-none, next-sane}
-use Rattle.fields.specs.Named.{Named, Follows}
-use Rattle.fields.proofs.Marks.{none-named}
+use Rattle.variables.specs.Named.{Named, Follows}
+use Rattle.variables.proofs.Marks.{none-named}
 use Rattle.table.proofs.Scans.{next-follows}
 
 pub record Left (t : List ℕ) (shapes : List RuleShape) (s : Scan) (named : List Bool) (n : ℕ) : Type 0 where

@@ -5,7 +5,6 @@ pub mod record;
 ghost use mathlib.Core.Path.{_≡_};
 ghost use Rattle.model.specs.Reading.{firstScan, noShape, ended, reading, readOf};
 ghost use Rattle.model.specs.Calls.{checkOf};
-use fields::variables;
 use model::CallResult;
 use model::Reading;
 use model::RecordStep;

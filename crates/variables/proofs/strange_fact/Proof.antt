@@ -2,8 +2,8 @@
 use borrow.Author.Needs.{needs}
 use Rattle.records.proofs.Tests.{chain}
 use Rattle.model.specs.Variables.{strangeFact}
-use Rattle.fields.proofs.variables.strange_fact.Statement.{statement}
-use Rattle.fields.proofs.variables.strange_fact.Tie as tie
+use Rattle.variables.proofs.strange_fact.Statement.{statement}
+use Rattle.variables.proofs.strange_fact.Tie as tie
 
 pub strange-fact-spec : {M : Type 1} → statement M
 unfolding strangeFact

@@ -1,8 +1,8 @@
 -- `variables::mark_head` meets its contract: one slot after the other.
 use borrow.Author.Needs.{needs}
-use Rattle.fields.proofs.Marks.{head-marked}
-use Rattle.fields.proofs.variables.mark_head.Statement.{statement}
-use Rattle.fields.proofs.variables.mark_head.Tie as tie
+use Rattle.variables.proofs.Marks.{head-marked}
+use Rattle.variables.proofs.mark_head.Statement.{statement}
+use Rattle.variables.proofs.mark_head.Tie as tie
 
 pub mark-head-spec : {M : Type 1} → statement M
 mark-head-spec =

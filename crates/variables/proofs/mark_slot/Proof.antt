@@ -1,8 +1,8 @@
 -- `variables::mark_slot` meets its contract: one arm a slot.
 use borrow.Author.Needs.{needs}
-use Rattle.fields.proofs.Marks.{variable-small, unused-marked, constant-marked, variable-marked, bad-marked}
-use Rattle.fields.proofs.variables.mark_slot.Statement.{statement}
-use Rattle.fields.proofs.variables.mark_slot.Tie as tie
+use Rattle.variables.proofs.Marks.{variable-small, unused-marked, constant-marked, variable-marked, bad-marked}
+use Rattle.variables.proofs.mark_slot.Statement.{statement}
+use Rattle.variables.proofs.mark_slot.Tie as tie
 
 pub mark-slot-spec : {M : Type 1} → statement M
 mark-slot-spec =

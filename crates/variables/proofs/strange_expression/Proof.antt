@@ -2,8 +2,8 @@
 use borrow.Author.Needs.{needs}
 use Rattle.records.proofs.Tests.{chain}
 use Rattle.model.specs.Variables.{strangeExpression}
-use Rattle.fields.proofs.variables.strange_expression.Statement.{statement}
-use Rattle.fields.proofs.variables.strange_expression.Tie as tie
+use Rattle.variables.proofs.strange_expression.Statement.{statement}
+use Rattle.variables.proofs.strange_expression.Tie as tie
 
 pub strange-expression-spec : {M : Type 1} → statement M
 unfolding strangeExpression

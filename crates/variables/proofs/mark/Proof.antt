@@ -1,8 +1,8 @@
 -- `variables::mark` meets its contract, by what the record makes of the rule.
 use borrow.Author.Needs.{needs}
-use Rattle.fields.proofs.Marks.{head-lies, more-named, fewer-named, still-named}
-use Rattle.fields.proofs.variables.mark.Statement.{statement}
-use Rattle.fields.proofs.variables.mark.Tie as tie
+use Rattle.variables.proofs.Marks.{head-lies, more-named, fewer-named, still-named}
+use Rattle.variables.proofs.mark.Statement.{statement}
+use Rattle.variables.proofs.mark.Tie as tie
 
 pub mark-spec : {M : Type 1} → statement M
 mark-spec =

@@ -1,5 +1,5 @@
-// 22, "guard or body variable in no head". A mark for each variable says whether a head of the rule has it: the marks are made while the
-// heads are read, so that no head is read again.
+// The test of a record's variables: 22, "guard or body variable in no head". A mark for each variable says whether a head of the rule has it:
+// the marks are made while the heads are read, so that no head is read again.
 ghost use mathlib.Core.Path.{_≡_};
 ghost use Prim.Native.Nat.{_+_, _≤_};
 ghost use lib.ListN.{length, replicate};
@@ -8,7 +8,7 @@ ghost use Rattle.model.specs.declared.Kind.the-variants.{KeptHead, Comparison, 
 ghost use Rattle.model.specs.Records.{sizeOf};
 ghost use Rattle.model.specs.Slots.{slotAt};
 ghost use Rattle.model.specs.Variables.{strangeSlot, strangeExpression, strangeGuard, strangeFact, strange};
-ghost use Rattle.fields.specs.Named.{Named, Follows, marked, markedHead};
+ghost use Rattle.variables.specs.Named.{Named, Follows, marked, markedHead};
 use model::Kind;
 use model::Rule;
 use model::RuleShape;

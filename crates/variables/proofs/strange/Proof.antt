@@ -1,8 +1,8 @@
 -- `variables::strange` meets its contract: one arm a kind.
 use borrow.Author.Needs.{needs}
 use Rattle.model.specs.Variables.{strange}
-use Rattle.fields.proofs.variables.strange.Statement.{statement}
-use Rattle.fields.proofs.variables.strange.Tie as tie
+use Rattle.variables.proofs.strange.Statement.{statement}
+use Rattle.variables.proofs.strange.Tie as tie
 
 pub strange-spec : {M : Type 1} → statement M
 unfolding strange

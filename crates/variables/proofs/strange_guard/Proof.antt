@@ -2,8 +2,8 @@
 use borrow.Author.Needs.{needs}
 use Rattle.records.proofs.Tests.{chain}
 use Rattle.model.specs.Variables.{strangeGuard}
-use Rattle.fields.proofs.variables.strange_guard.Statement.{statement}
-use Rattle.fields.proofs.variables.strange_guard.Tie as tie
+use Rattle.variables.proofs.strange_guard.Statement.{statement}
+use Rattle.variables.proofs.strange_guard.Tie as tie
 
 pub strange-guard-spec : {M : Type 1} → statement M
 unfolding strangeGuard

@@ -1,8 +1,8 @@
 -- `variables::strange_at` meets its contract: one return a test.
 use borrow.Author.Needs.{needs}
-use Rattle.fields.proofs.Marks.{is-marked, too-high, by-tag}
-use Rattle.fields.proofs.variables.strange_at.Statement.{statement}
-use Rattle.fields.proofs.variables.strange_at.Tie as tie
+use Rattle.variables.proofs.Marks.{is-marked, too-high, by-tag}
+use Rattle.variables.proofs.strange_at.Statement.{statement}
+use Rattle.variables.proofs.strange_at.Tie as tie
 
 pub strange-at-spec : {M : Type 1} → statement M
 strange-at-spec =

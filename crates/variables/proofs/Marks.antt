@@ -17,7 +17,7 @@ use Rattle.model.specs.Variables.{isVariable, headHas, inHeads, strangeSlot}
 use Rattle.model.specs.declared.RuleShape.{RuleShape}
 use Rattle.model.specs.declared.Slot.{Slot}
 use Rattle.model.specs.declared.Slot.the-variants.{Unused, Constant, Variable, Bad}
-use Rattle.fields.specs.Named.{Named, Follows, headless, head, same, marked, markedHead}
+use Rattle.variables.specs.Named.{Named, Follows, headless, head, same, marked, markedHead}
 
 -- ---- what holds of a slot, by the tests of its tag and its value
 
