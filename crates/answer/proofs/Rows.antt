@@ -1,11 +1,14 @@
 -- The record of a row, and the records of the rows so far: one more row is one more record behind them.
 use Prim.Native.Nat.{ℕ, zero, suc, _+_, _*_, _≤_, _<_}
 use mathlib.Core.Path.{_≡_, refl, sym, ap, _∙_}
+use mathlib.Core.Bool.{true}
 use mathlib.Core.List.{List, [], _∷_, _++_, append-assoc, append-nil}
 use native.Mathlib.Omega.{arith}
 use native.Mathlib.Numerals.{add-one}
 use lib.IntN.{ℤ, pos}
 use lib.ListN.{length, getD, set}
+use lib.Dec.{leb}
+use borrow.Author.Tests.{leb-true}
 use Rattle.wire.specs.Wire.{bytes4, bitsOf, putU32}
 use Rattle.wire.specs.Laws.{length-put}
 use Rattle.model.specs.declared.Stored.{Stored}
@@ -37,6 +40,13 @@ module _ (symbols ids : List ℕ) (args : List ℤ) (i : ℕ) where
 -- room stays room
 pub room-word : {u : List ℕ} (s : List ℕ) (at w k : ℕ) → u ≡ putU32 s at w → k ≤ length s → k ≤ length u
 room-word s at w k e h = omega (arith, ap length e, length-put s at w)
+
+-- room for a record of 22 bytes is room for a byte, or a word, a bytes into it
+pub byte-within : (at a : ℕ) {n : ℕ} → leb (a + 1) 22 ≡ true → at + 22 ≤ n → at + a < n
+byte-within at a l h = omega (arith, leb-true (a + 1) 22 l)
+
+pub word-within : (at a : ℕ) {n : ℕ} → leb (a + 4) 22 ≡ true → at + 22 ≤ n → at + a + 4 ≤ n
+word-within at a l h = omega (arith, leb-true (a + 4) 22 l)
 
 -- ---- the rows
 
