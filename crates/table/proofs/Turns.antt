@@ -1,6 +1,6 @@
 -- One turn of `table::read`, as the definition has it. The loop's invariant: what is left of the records answers for the whole table, the scan
 -- keeps what one of a good table keeps, and the variables of the heads of the rule that is being read are marked.
-use Prim.Native.Nat.{ℕ, zero, suc, _+_, _-_, _^_, _<_, _≤_}
+use Prim.Native.Nat.{ℕ, zero, suc, _-_, _^_, _<_, _≤_}
 use mathlib.Core.Path.{_≡_, refl, sym, ap, _∙_, subst}
 use mathlib.Core.List.{List}
 use mathlib.Core.Bool.{Bool, false}
@@ -86,10 +86,3 @@ module _ {t : List ℕ} {shapes : List RuleShape} {s : Scan} {named : List Bool}
 
     pub read-out : n ≤ 0 → x ≡ reading (Refused 17 (length t)) (s .symbols) (s .rules) shapes → x ≡ readOf t
     read-out h q = q ∙ sym (l .same ∙ out t s shapes n h)
-
--- a test of a record's end that cannot wrap
-pub cut : {n at size : ℕ} → at < n → n - at < size → n < at + size
-cut h g = omega arith
-
-pub whole : {n at size : ℕ} → at < n → size ≤ n - at → at + size ≤ n
-whole h g = omega arith

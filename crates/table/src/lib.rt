@@ -1,7 +1,5 @@
 // Reading a table (document 01, "Table, goal and answer bytes"): record by record, each tested in the order
-// 16, 17, 18, 21, 19, 20, 22; then 23.
-pub mod record;
-
+// 16, 17, 18, 21, 19, 20, 22 (crate record_tests); then 23.
 ghost use mathlib.Core.Path.{_≡_};
 ghost use Rattle.model.specs.Reading.{firstScan, noShape, ended, reading, readOf};
 ghost use Rattle.model.specs.Calls.{checkOf};
@@ -70,7 +68,7 @@ pub fn read(table: &[u8]) -> Reading
     let mut left = table.len();
     while 0 < left {
         left -= 1;
-        match record::read_record(table, s, &named) {
+        match record_tests::read_record(table, s, &named) {
             RecordStep::Next(next) => {
                 let at = s.at;
                 let before = s.shape;

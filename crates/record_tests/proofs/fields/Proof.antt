@@ -1,9 +1,9 @@
--- `record::fields` meets its contract.
+-- `record_tests::fields` meets its contract.
 use borrow.Author.Needs.{needs}
 use Rattle.records.proofs.Tests.{chain}
 use Rattle.model.specs.Reading.{fieldsOf}
-use Rattle.table.proofs.record.fields.Statement.{statement}
-use Rattle.table.proofs.record.fields.Tie as tie
+use Rattle.record_tests.proofs.fields.Statement.{statement}
+use Rattle.record_tests.proofs.fields.Tie as tie
 
 pub fields-spec : {M : Type 1} → statement M
 unfolding fieldsOf

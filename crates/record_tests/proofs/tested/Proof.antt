@@ -1,11 +1,11 @@
--- `record::tested` meets its contract.
+-- `record_tests::tested` meets its contract.
 use native.Mathlib.Omega.{arith}
 use borrow.Author.Needs.{needs}
 use Rattle.records.proofs.Tests.{chain}
 use Rattle.model.specs.Reading.{testedOf}
-use Rattle.table.proofs.Turns.{cut, whole}
-use Rattle.table.proofs.record.tested.Statement.{statement}
-use Rattle.table.proofs.record.tested.Tie as tie
+use Rattle.record_tests.proofs.Ends.{cut, whole}
+use Rattle.record_tests.proofs.tested.Statement.{statement}
+use Rattle.record_tests.proofs.tested.Tie as tie
 
 pub tested-spec : {M : Type 1} → statement M
 unfolding testedOf

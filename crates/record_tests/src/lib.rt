@@ -1,4 +1,4 @@
-// One record: its tests in the order 16, 17; 18, 21, 19; 20, 22, and what is known behind it.
+// The tests of one record, in the order 16, 17; 18, 21, 19; 20, 22, and what is known behind it.
 ghost use mathlib.Core.Path.{_≡_};
 ghost use mathlib.Core.Bool.{false};
 ghost use Prim.Native.Nat.{_+_, _^_, _≤_, _<_};

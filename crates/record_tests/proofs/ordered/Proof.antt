@@ -1,10 +1,10 @@
--- `record::ordered` meets its contract.
+-- `record_tests::ordered` meets its contract.
 use native.Mathlib.Omega.{arith}
 use borrow.Author.Needs.{needs}
 use Rattle.records.proofs.Tests.{chain, flag}
 use Rattle.model.specs.Reading.{orderedOf}
-use Rattle.table.proofs.record.ordered.Statement.{statement}
-use Rattle.table.proofs.record.ordered.Tie as tie
+use Rattle.record_tests.proofs.ordered.Statement.{statement}
+use Rattle.record_tests.proofs.ordered.Tie as tie
 
 pub ordered-spec : {M : Type 1} → statement M
 unfolding orderedOf

@@ -1,10 +1,10 @@
--- `record::behind` meets its contract: one arm a kind.
+-- `record_tests::behind` meets its contract: one arm a kind.
 use native.Mathlib.Omega.{arith}
 use borrow.Author.Needs.{needs}
 use Rattle.model.specs.Reading.{behind}
-use Rattle.table.proofs.Counts.{symbol-few, rule-few, kept-few, removed-few, guard-few, fact-few, fail-few}
-use Rattle.table.proofs.record.behind.Statement.{statement}
-use Rattle.table.proofs.record.behind.Tie as tie
+use Rattle.record_tests.proofs.Counts.{symbol-few, rule-few, kept-few, removed-few, guard-few, fact-few, fail-few}
+use Rattle.record_tests.proofs.behind.Statement.{statement}
+use Rattle.record_tests.proofs.behind.Tie as tie
 
 pub behind-spec : {M : Type 1} → statement M
 unfolding behind

@@ -1,9 +1,9 @@
--- `record::read_record` meets its contract.
+-- `record_tests::read_record` meets its contract.
 use borrow.Author.Needs.{needs}
 use Rattle.records.proofs.Tests.{chain}
 use Rattle.model.specs.Reading.{recordOf}
-use Rattle.table.proofs.record.read_record.Statement.{statement}
-use Rattle.table.proofs.record.read_record.Tie as tie
+use Rattle.record_tests.proofs.read_record.Statement.{statement}
+use Rattle.record_tests.proofs.read_record.Tie as tie
 
 pub read-record-spec : {M : Type 1} → statement M
 unfolding recordOf

@@ -1,0 +1,3 @@
+pub mod InOrder
+pub mod Counts
+pub mod Ends
