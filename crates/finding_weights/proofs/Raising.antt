@@ -21,12 +21,11 @@ use Rattle.model.specs.Table.{Head, Rule, noRule, headAt, headsFrom, headsStart
 use Rattle.model.specs.Weights.{weightIn, headsWeight, bodyWeight, firstHeavy}
 use Rattle.model.proofs.Good.{GoodRule}
 use Rattle.model.proofs.Decoded.{heads-none, heads-first, rule-removed, rule-body, rules-length, rule-at}
-use Rattle.weighing.specs.declared.FirstRule.{FirstRule}
-use Rattle.weighing.specs.declared.FirstRule.the-variants as outcome
-use Rattle.weighing.specs.declared.RuleWeights.{RuleWeights}
-use Rattle.weighing.specs.Views.{Counted, Known, Lies, Weighs, firstRule}
-use Rattle.weighing.proofs.Chain.{heavy-at as found-at, heavy-none as found-none}
-use Rattle.weighing.proofs.Turns.{known-good, few-rules, lies}
+use Rattle.rule_weights.specs.declared.FirstRule.{FirstRule}
+use Rattle.rule_weights.specs.declared.FirstRule.the-variants as outcome
+use Rattle.rule_weights.specs.declared.RuleWeights.{RuleWeights}
+use Rattle.rule_weights.specs.Views.{Counted, Known, Lies, Weighs, firstRule}
+use Rattle.rule_weights.proofs.Turns.{known-good, few-rules, lies, heavy-at as found-at, heavy-none as found-none}
 use Rattle.finding_weights.specs.declared.Weight.{Weight}
 use Rattle.finding_weights.specs.declared.Change.{Change}
 use Rattle.finding_weights.specs.declared.Change.the-variants.{To, Nothing}

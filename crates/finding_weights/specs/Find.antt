@@ -13,7 +13,7 @@ use Rattle.model.specs.declared.Verdict.the-variants.{Good, Refused}
 use Rattle.model.specs.Reading.{readOf}
 use Rattle.model.specs.Table.{tableOf}
 use Rattle.model.specs.Results.{refusal}
-use Rattle.weighing.specs.Views.{Known}
+use Rattle.rule_weights.specs.Views.{Known}
 use Rattle.finding_weights.specs.Search.{Sought, found, stopped, searchOf}
 
 -- the result, and the buffer's bytes at the return

@@ -8,7 +8,7 @@ ghost use lib.Dec.{eqb};
 ghost use lib.ListN.{length};
 ghost use Rattle.model.specs.Reading.{readOf};
 ghost use Rattle.model.specs.Table.{tableOf, ruleOf};
-ghost use Rattle.weighing.specs.Views.{Known, Lies, firstRule};
+ghost use Rattle.rule_weights.specs.Views.{Known, Lies, firstRule};
 ghost use Rattle.finding_weights.specs.Search.{mostRaises, raiseOf, soughtAs, searchFrom};
 ghost use Rattle.finding_weights.specs.Find.{Begins, Gives, findCount, findOf};
 use model::CallResult;
@@ -19,9 +19,8 @@ use model::Table;
 use model::Verdict;
 use records::geometry;
 use records::geometry::HeadBytes;
-use weighing::FirstRule;
-use weighing::goals;
-use weighing::rules;
+use rule_weights::FirstRule;
+use rule_weights::rules;
 
 pub struct Weight(pub u8);
 
@@ -50,7 +49,7 @@ fn raise(table: &[u8], weights: &[u8], shape: RuleShape) -> Change
     let by = deficit(sides.body, sides.removed);
     let from = geometry::head_start(shape, shape.kept as usize);
     let symbol = Symbol(wire::byte(table, from + HeadBytes::SYMBOL));
-    let weight = goals::weight_of(weights, symbol) + by;
+    let weight = rule_weights::weight_of(weights, symbol) + by;
     if shape.heads == shape.kept {
         return Change::Nothing;
     }

@@ -1,13 +1,12 @@
 -- The tests of a weighing, one after the other: what each finds decides the definition's case. On 0 the parts make the definition's W and bound.
 use Prim.Native.Nat.{ℕ, _/_, _≤_}
 use mathlib.Core.Path.{_≡_, sym, ap, _∙_}
-use mathlib.Core.Bool.{true, false}
+use mathlib.Core.Bool.{true}
 use mathlib.Core.Option.{Option, none, some}
 use mathlib.Core.List.{List}
 use native.Mathlib.Omega.{arith}
 use lib.Dec.{eqb}
 use lib.ListN.{length}
-use borrow.Author.Tests.{eq-eqb, ne-eqb}
 use mir.Syntax.{w32}
 use mir.Val.{Fits}
 use Rattle.model.specs.declared.Symbol.{Symbol}
@@ -26,11 +25,13 @@ use Rattle.model.specs.Calls.{refusedWeighing, weighed, weighGoal, weighRules, 
 use Rattle.model.proofs.Decoded.{table-symbols}
 use Rattle.model.proofs.Good.{good-goal, goal-places}
 use Rattle.table.proofs.Verdicts.{verdict-read}
+use Rattle.rule_weights.specs.declared.FirstRule.{FirstRule}
+use Rattle.rule_weights.specs.declared.FirstRule.the-variants as rule
+use Rattle.rule_weights.specs.Views.{Counted, Known, firstRule}
+use Rattle.rule_weights.proofs.Turns.{symbols-same, count-same, count-differs, heavy-at, heavy-none}
 use Rattle.weighing.specs.declared.FirstSymbol.{FirstSymbol}
 use Rattle.weighing.specs.declared.FirstSymbol.the-variants as symbol
-use Rattle.weighing.specs.declared.FirstRule.{FirstRule}
-use Rattle.weighing.specs.declared.FirstRule.the-variants as rule
-use Rattle.weighing.specs.Views.{Counted, Known, firstSymbol, firstRule}
+use Rattle.weighing.specs.Views.{firstSymbol}
 
 -- what a search for the first found
 pub zero-at : {r : FirstSymbol} (o : Option ℕ) {s : Symbol} → firstSymbol r ≡ o → r ≡ symbol.At s → o ≡ some (s .0)
@@ -40,14 +41,6 @@ zero-at o e d = sym e ∙ ap firstSymbol d
 pub zero-none : {r : FirstSymbol} (o : Option ℕ) → firstSymbol r ≡ o → r ≡ symbol.Nothing → o ≡ none
 unfolding firstSymbol
 zero-none o e d = sym e ∙ ap firstSymbol d
-
-pub heavy-at : {r : FirstRule} (o : Option ℕ) {n : RuleNumber} → firstRule r ≡ o → r ≡ rule.At n → o ≡ some (n .0)
-unfolding firstRule
-heavy-at o e d = sym e ∙ ap firstRule d
-
-pub heavy-none : {r : FirstRule} (o : Option ℕ) → firstRule r ≡ o → r ≡ rule.Nothing → o ≡ none
-unfolding firstRule
-heavy-none o e d = sym e ∙ ap firstRule d
 
 -- each test's answer, as the definition's case
 module _ (t weights g : List ℕ) {x : Weighing} where
@@ -68,22 +61,19 @@ module _ (t weights g : List ℕ) {x : Weighing} where
   passed-symbols e d q = q ∙ ap (weighZero t weights g) (sym (zero-none _ e d))
 
 module _ {t : List ℕ} {r : Reading} (k : Known t r) where
-  symbols-same : r .symbols ≡ readOf t .symbols
-  symbols-same = ap (λ (r : Reading). r .symbols) (k .same)
-
   -- 40, and what is tested behind it
   module _ (weights g : List ℕ) {x : Weighing} where
     pub other-count : (length weights ≡ r .symbols → ⊥) → x ≡ refusedWeighing 40 0
         → x ≡ weighCount t weights g (eqb (length weights) (readOf t .symbols))
-    other-count d q = q ∙ ap (weighCount t weights g) (sym (ne-eqb _ _ (λ (e : length weights ≡ readOf t .symbols). d (e ∙ sym symbols-same))))
+    other-count d q = q ∙ ap (weighCount t weights g) (sym (count-differs k weights d))
 
     pub same-count : length weights ≡ r .symbols → x ≡ weighCount t weights g true
         → x ≡ weighCount t weights g (eqb (length weights) (readOf t .symbols))
-    same-count e q = q ∙ ap (weighCount t weights g) (sym (eq-eqb _ _ (e ∙ symbols-same)))
+    same-count e q = q ∙ ap (weighCount t weights g) (sym (count-same k weights e))
 
   -- the goal's verdict
   pub goal-read : (g : List ℕ) {v w : Verdict} → v ≡ goalVerdict t (r .symbols) g → v ≡ w → goalVerdict t (readOf t .symbols) g ≡ w
-  goal-read g e d = ap (λ (n : ℕ). goalVerdict t n g) (sym symbols-same) ∙ sym e ∙ d
+  goal-read g e d = ap (λ (n : ℕ). goalVerdict t n g) (sym (symbols-same k)) ∙ sym e ∙ d
 
   module _ (weights g : List ℕ) {x : Weighing} {v : Verdict} (e : v ≡ goalVerdict t (r .symbols) g) where
     pub goal-good : v ≡ Good → x ≡ weighed t weights g → x ≡ weighRules t weights g none
@@ -94,12 +84,6 @@ module _ {t : List ℕ} {r : Reading} (k : Known t r) where
 
   pub goal-place : (g : List ℕ) {v : Verdict} {n p : ℕ} → v ≡ goalVerdict t (r .symbols) g → v ≡ Refused n p → Fits w32 p
   goal-place g {n = n} {p} e d = record { fits = omega (arith, goal-places t _ g n p (goal-read g e d) .near) }
-
-  pub count-same : (weights : List ℕ) → length weights ≡ r .symbols → eqb (length weights) (readOf t .symbols) ≡ true
-  count-same weights e = eq-eqb _ _ (e ∙ symbols-same)
-
-  pub count-differs : (weights : List ℕ) → (length weights ≡ r .symbols → ⊥) → eqb (length weights) (readOf t .symbols) ≡ false
-  count-differs weights d = ne-eqb _ _ (λ (e : length weights ≡ readOf t .symbols). d (e ∙ sym symbols-same))
 
 -- the table's verdict
 module _ (t weights g : List ℕ) {r : Reading} (e : r ≡ readOf t) {x : Weighing} where

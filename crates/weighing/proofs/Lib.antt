@@ -1,5 +1,3 @@
 pub mod Parts
-pub mod Turns
-pub mod Bounds
 pub mod Chain
 pub mod Demand

@@ -1,44 +1,28 @@
 // Weighing a table: "Weighing tests table, 40, 41, 42, then the goal; on 0 it gives the W and step bound .., and otherwise both are 0."
-pub mod bodies;
 pub mod goals;
-pub mod heads;
-pub mod rules;
 
 ghost use mathlib.Core.Path.{_≡_};
 ghost use mathlib.Core.Option.{none};
-ghost use Prim.Native.Nat.{_≤_};
 ghost use lib.Dec.{eqb};
 ghost use lib.ListN.{length};
 ghost use Rattle.model.specs.declared.Verdict.the-variants.{Good};
 ghost use Rattle.model.specs.Reading.{readOf};
 ghost use Rattle.model.specs.Goal.{goalVerdict};
-ghost use Rattle.model.specs.Weights.{stepBound};
 ghost use Rattle.model.specs.Results.{refusal};
 ghost use Rattle.model.specs.Calls.{refusedWeighing, weighed, weighRules, weighZero, weighCount, weighOf};
-ghost use Rattle.weighing.specs.Views.{Known};
+ghost use Rattle.rule_weights.specs.Views.{Known};
 use model::CallResult;
 use model::Reading;
-use model::RuleNumber;
 use model::Symbol;
 use model::Verdict;
 use model::Weighing;
+use rule_weights::FirstRule;
+use step_bound::step_bound;
 
 // What a search for the first symbol of its sort finds.
 pub enum FirstSymbol {
     At(Symbol),
     Nothing,
-}
-
-// What a search for the first rule of its sort finds.
-pub enum FirstRule {
-    At(RuleNumber),
-    Nothing,
-}
-
-// What the removed heads of a rule weigh, and what its body weighs.
-pub struct RuleWeights {
-    pub removed: u32,
-    pub body: u32,
 }
 
 // A result with no counts, W and the bound.
@@ -59,23 +43,15 @@ fn refused(number: u8, place: u32) -> Weighing
     weighing(number, place, 0, 0)
 }
 
-// (G + B·W)·(M + 2) + W + 1
-fn step_bound(facts: u32, body: u32, weight: u32, places: u32) -> u32
-    requires { ⌜ (facts ≤ 64) × (body ≤ 4) × (weight ≤ 16320) × (places ≤ 256) ⌝ }
-    ensures { λ r. ⌜ r ≡ stepBound facts body weight places ⌝ }
-{
-    (facts + body * weight) * (places + 2) + weight + 1
-}
-
 // W, and the bound with G, B and M.
 fn weighed(table: &[u8], weights: &[u8], goal: &[u8], reading: Reading) -> Weighing
     requires { ⌜ Known (now table) reading × (goalVerdict (now table) (readOf (now table) .symbols) (now goal) ≡ Good) ⌝ }
     ensures { λ r. ⌜ r ≡ weighed (now (table .entry)) (now (weights .entry)) (now (goal .entry)) ⌝ }
 {
-    let facts = goals::fact_count(goal);
+    let facts = step_bound::fact_count(goal);
     let weight = goals::goal_weight(weights, goal);
-    let body = rules::most_facts(table, reading);
-    let places = rules::most_places(table, reading);
+    let body = step_bound::rules::most_facts(table, reading);
+    let places = step_bound::rules::most_places(table, reading);
     weighing(0, 0, weight, step_bound(facts, body, weight, places))
 }
 
@@ -95,7 +71,7 @@ fn weigh_rules(table: &[u8], weights: &[u8], goal: &[u8], reading: Reading) -> W
     requires { ⌜ Known (now table) reading ⌝ }
     ensures { λ r. ⌜ r ≡ weighZero (now (table .entry)) (now (weights .entry)) (now (goal .entry)) none ⌝ }
 {
-    match rules::first_heavy(table, weights, reading) {
+    match rule_weights::rules::first_heavy(table, weights, reading) {
         FirstRule::At(rule) => refused(42, rule.0 as u32),
         FirstRule::Nothing => weigh_goal(table, weights, goal, reading),
     }

@@ -3,7 +3,8 @@ use native.Mathlib.Omega.{arith}
 use borrow.Author.Needs.{needs}
 use Rattle.model.specs.Goal.{factsFrom, goalOf}
 use Rattle.model.specs.Weights.{weightIn, goalWeight}
-use Rattle.weighing.proofs.Parts.{Left, ended, goal-begins, goal-none, goal-weighed}
+use Rattle.rule_weights.proofs.Parts.{Left, ended}
+use Rattle.weighing.proofs.Parts.{goal-begins, goal-none, goal-weighed}
 use Rattle.weighing.proofs.goals.goal_weight.Statement.{statement}
 use Rattle.weighing.proofs.goals.goal_weight.Tie as tie
 
