@@ -15,12 +15,12 @@ use Rattle.model.specs.declared.Verdict.the-variants.{Good, Refused}
 use Rattle.model.specs.Reading.{readOf}
 use Rattle.model.specs.Table.{tableOf}
 use Rattle.model.specs.Results.{refusal}
+use Rattle.table.proofs.Verdicts.{verdict-read}
 use Rattle.rule_weights.specs.declared.FirstRule.{FirstRule}
 use Rattle.rule_weights.specs.declared.FirstRule.the-variants.{At, Nothing}
 use Rattle.rule_weights.specs.Views.{Known, firstRule}
-use Rattle.table.proofs.Verdicts.{verdict-read}
 use Rattle.rule_weights.proofs.Turns.{known-good, count-same, count-differs}
-use Rattle.finding_weights.specs.Search.{soughtAs, mostRaises, searchFrom, searchOf}
+use Rattle.raises.specs.Search.{soughtAs, mostRaises, searchFrom, searchOf}
 use Rattle.finding_weights.specs.Find.{Begins, Gives, findEnded, findCount, findTable, findOf}
 
 take-ones : (n m : ℕ) → n ≤ m → take {A = ℕ} n (replicate m 1) ≡ replicate n 1

@@ -19,9 +19,9 @@ use Rattle.model.specs.Calls.{weighed, weighGoal, weighRules, weighZero, weighC
 use Rattle.model.proofs.Every.{every, every-right, every-weaken}
 use Rattle.model.proofs.Good.{GoodTable, good-table, refusal-small, goal-places}
 use Rattle.model.proofs.Decoded.{table-symbols, every-head-declared}
-use Rattle.finding_weights.specs.Search.{Sought, found, stopped, searchOf}
+use Rattle.raises.specs.Search.{Sought, found, stopped, searchOf}
+use Rattle.raises.proofs.Accepted.{Declared, Accepted, Stuck, Settled, search-settles}
 use Rattle.finding_weights.specs.Find.{Finding, finding, findEnded, findCount, findTable, findOf, Gives}
-use Rattle.finding_weights.proofs.Accepted.{Declared, Accepted, Stuck, Settled, search-settles}
 
 -- each removed head's symbol is declared, and there are at most 32
 pub removed-declared : (t : List ℕ) → GoodTable t → Declared (tableOf t .rules) (readOf t .symbols)

@@ -14,7 +14,7 @@ use Rattle.model.specs.Reading.{readOf}
 use Rattle.model.specs.Table.{tableOf}
 use Rattle.model.specs.Results.{refusal}
 use Rattle.rule_weights.specs.Views.{Known}
-use Rattle.finding_weights.specs.Search.{Sought, found, stopped, searchOf}
+use Rattle.raises.specs.Search.{Sought, found, stopped, searchOf}
 
 -- the result, and the buffer's bytes at the return
 pub record Finding : Type 0 where

@@ -17,7 +17,7 @@ use Rattle.model.specs.declared.Reading.{Reading}
 use Rattle.model.specs.declared.RuleShape.{RuleShape}
 use Rattle.model.specs.Limits.{mostRules}
 use Rattle.model.specs.Reading.{noShape, readOf}
-use Rattle.model.specs.Table.{Rule, heads, headsStart, headsFrom, itemsStart, itemsFrom, noRule, tableOf, ruleOf, ruleAt}
+use Rattle.model.specs.Table.{Rule, headsStart, headsFrom, itemsStart, itemsFrom, noRule, tableOf, ruleOf, ruleAt}
 use Rattle.model.specs.Weights.{bodyWeight, headsWeight, firstHeavy}
 use Rattle.model.proofs.Lists.{not-true}
 use Rattle.model.proofs.Good.{GoodRule, GoodTable, good-table}

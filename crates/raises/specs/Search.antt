@@ -1,29 +1,14 @@
 -- A search for weights with which every rule loses weight. All weights begin at 1. While a rule does not lose weight, the first such rule has the
--- symbol of its first removed head raised, by just as much as makes it lose weight.
-use Prim.Native.Nat.{ℕ, zero, suc, _+_, _-_}
-use mathlib.Core.Bool.{cond}
+-- symbol of its first removed head raised (`raiseOf`).
+use Prim.Native.Nat.{ℕ, zero, suc}
 use mathlib.Core.Option.{Option, none, some}
-use mathlib.Core.List.{List, [], _∷_}
-use lib.Dec.{leb}
+use mathlib.Core.List.{List}
 use lib.ListN.{getD, set, replicate}
-use Rattle.model.specs.Table.{Head, Rule, noRule}
-use Rattle.model.specs.Weights.{weightIn, headsWeight, bodyWeight, firstHeavy}
-use Rattle.model.specs.declared.Symbol.{Symbol}
-use Rattle.finding_weights.specs.declared.Weight.{Weight}
-use Rattle.finding_weights.specs.declared.Change.{Change}
-use Rattle.finding_weights.specs.declared.Change.the-variants.{To, Nothing}
-
--- symbol s gets the weight x
-abbrev pub to : ℕ → ℕ → Change
-to s x = To (record { 0 = s }) (record { 0 = x })
-
--- the first of these heads has its symbol raised by d: not where there is none, and not above 255
-unfoldable pub raiseBy : List ℕ → ℕ → List Head → Change
-raiseBy ws d [] = Nothing
-raiseBy ws d (h ∷ hs) = cond (leb (weightIn ws (h .symbol) + d) 255) (to (h .symbol .0) (weightIn ws (h .symbol) + d)) Nothing
-
-unfoldable pub raiseOf : List ℕ → Rule → Change
-raiseOf ws r = raiseBy ws (suc (bodyWeight (weightIn ws) (r .body)) - headsWeight (weightIn ws) (r .removed)) (r .removed)
+use Rattle.model.specs.Table.{Rule, noRule}
+use Rattle.model.specs.Weights.{weightIn, firstHeavy}
+use Rattle.raise.specs.declared.Change.{Change}
+use Rattle.raise.specs.declared.Change.the-variants.{To, Nothing}
+use Rattle.raise.specs.Raise.{raiseOf}
 
 -- how a search ends, with the weights as they stand: every rule loses weight, or this one does not and cannot be raised
 pub data Sought : Type 0 where

@@ -1,91 +1,31 @@
--- Raising: a raise is the definition's, each turn of the search is one of the definition's, and every index that the search
--- uses is in range, since the first rule that does not lose weight is a rule of the table, and its heads' symbols are declared.
-use Prim.Native.Nat.{ℕ, zero, suc, _+_, _-_, _*_, _<_, _≤_}
+-- Each turn of the search is one of the definition's, and every index that the search uses is in range, since the first rule that does not lose
+-- weight is a rule of the table, and its heads' symbols are declared.
+use Prim.Native.Nat.{ℕ, zero, suc, _-_, _<_, _≤_}
 use mathlib.Core.Path.{_≡_, refl, sym, ap, _∙_}
-use mathlib.Core.Logic.{_⊎_, inl, inr}
-use mathlib.Core.Bool.{cond}
 use mathlib.Core.Option.{Option, none, some}
-use mathlib.Core.List.{List, []}
+use mathlib.Core.List.{List}
 use native.Mathlib.Omega.{arith}
-use native.Mathlib.Nat.{eq-or-lt-of-le}
-use lib.Dec.{leb}
 use lib.ListN.{length, getD, set, length-set}
-use borrow.Author.Tests.{le-leb, lt-leb}
 use Rattle.model.specs.declared.Symbol.{Symbol}
 use Rattle.model.specs.declared.RuleNumber.{RuleNumber}
 use Rattle.model.specs.declared.Reading.{Reading}
-use Rattle.model.specs.declared.RuleShape.{RuleShape}
 use Rattle.model.specs.Limits.{mostRules}
 use Rattle.model.specs.Reading.{noShape, readOf}
-use Rattle.model.specs.Table.{Head, Rule, noRule, headAt, headsFrom, headsStart, itemsStart, itemsFrom, tableOf, ruleOf, ruleAt}
-use Rattle.model.specs.Weights.{weightIn, headsWeight, bodyWeight, firstHeavy}
+use Rattle.model.specs.Table.{Rule, noRule, tableOf, ruleOf, ruleAt}
+use Rattle.model.specs.Weights.{weightIn, firstHeavy}
 use Rattle.model.proofs.Good.{GoodRule}
-use Rattle.model.proofs.Decoded.{heads-none, heads-first, rule-removed, rule-body, rules-length, rule-at}
+use Rattle.model.proofs.Decoded.{rules-length, rule-at}
 use Rattle.rule_weights.specs.declared.FirstRule.{FirstRule}
 use Rattle.rule_weights.specs.declared.FirstRule.the-variants as outcome
-use Rattle.rule_weights.specs.declared.RuleWeights.{RuleWeights}
-use Rattle.rule_weights.specs.Views.{Counted, Known, Lies, Weighs, firstRule}
+use Rattle.rule_weights.specs.Views.{Known, Lies, firstRule}
 use Rattle.rule_weights.proofs.Turns.{known-good, few-rules, lies, heavy-at as found-at, heavy-none as found-none}
-use Rattle.finding_weights.specs.declared.Weight.{Weight}
-use Rattle.finding_weights.specs.declared.Change.{Change}
-use Rattle.finding_weights.specs.declared.Change.the-variants.{To, Nothing}
-use Rattle.finding_weights.specs.Search.{to, raiseBy, raiseOf, mostRaises, Sought, soughtAs, raiseThen, heavyThen, searchFrom}
-use Rattle.finding_weights.proofs.Ends.{heavy-at, raised-by, lack}
-
--- ---- a raise
-
-module _ (ws t : List ℕ) where
-  raise-head : (d p n : ℕ) → 0 < n
-      → raiseBy ws d (headsFrom t p n) ≡ cond (leb (getD ws (getD t (p + 1) 0) 1 + d) 255) (to (getD t (p + 1) 0) (getD ws (getD t (p + 1) 0) 1 + d)) Nothing
-  unfolding raiseBy headAt
-  raise-head d p n h = rw (heads-first t p n h)
-
-  -- what is raised is the first head's symbol
-  to-head : (d p n s x : ℕ) → raiseBy ws d (headsFrom t p n) ≡ to s x → (0 < n) × (s ≡ getD t (p + 1) 0)
-  unfolding headsFrom headAt
-  to-head d p zero s x e = let r = raised-by ws d [] s x e in absurd (let z : _≡_ {A = ℕ} 0 1 = cc (r .first) in omega arith)
-  to-head d p (suc n) s x e =
-      let r = raised-by ws d (headsFrom t p (suc n)) s x e in
-      let h : r .head ≡ headAt t p = cc (r .first) in
-      (omega arith, r .symbol ∙ ap (λ (h : Head). h .symbol .0) h)
-
-  module _ (r : RuleShape) where
-    abbrev removed : List Head
-    removed = ruleOf t r .removed
-
-    first-removed : (d : ℕ) → raiseBy ws d removed ≡ raiseBy ws d (headsFrom t (headsStart r + 22 * r .kept) (r .heads - r .kept))
-    first-removed d = ap (raiseBy ws d) (rule-removed t r)
-
-    pub raise-none : r .heads ≡ r .kept → Nothing ≡ raiseOf ws (ruleOf t r)
-    unfolding raiseOf raiseBy
-    raise-none e =
-        let z : r .heads - r .kept ≡ 0 = omega arith in
-        let none-left : removed ≡ [] = rule-removed t r ∙ rw z (heads-none t (headsStart r + 22 * r .kept)) in
-        rw none-left
-
-    module _ {p d x : ℕ} {b : Symbol} {sides : RuleWeights} (lie : Lies t r) (more : r .heads ≡ r .kept → ⊥) (both : Weighs (weightIn ws) (ruleOf t r) sides)
-        (by : d ≡ suc (sides .body) - sides .removed) (at : p ≡ headsStart r + 22 * r .kept) (symbol : b .0 ≡ getD t (p + 1) 0)
-        (weight : Counted (weightIn ws b) 255 x) where
-      some-removed : 0 < r .heads - r .kept
-      some-removed = go (eq-or-lt-of-le (lie .keptFew))
-        where
-          go : (r .kept ≡ r .heads) ⊎ (r .kept < r .heads) → 0 < r .heads - r .kept
-          go (inl e) = absurd (more (sym e))
-          go (inr l) = omega arith
-
-      raise-is : raiseOf ws (ruleOf t r) ≡ cond (leb (x + d) 255) (to (b .0) (x + d)) Nothing
-      unfolding raiseOf
-      raise-is =
-          ap (λ (n : ℕ). raiseBy ws n removed) (sym (rw (← both .removed .same, ← both .body .same) by))
-          ∙ first-removed d
-          ∙ raise-head d (headsStart r + 22 * r .kept) (r .heads - r .kept) some-removed
-          ∙ rw (← at, ← symbol, ← weight .same)
-
-      pub raise-above : 255 < x + d → Nothing ≡ raiseOf ws (ruleOf t r)
-      raise-above h = sym (raise-is ∙ rw (lt-leb (x + d) 255 h))
-
-      pub raise-to : x + d ≤ 255 → To b (record { 0 = x + d }) ≡ raiseOf ws (ruleOf t r)
-      raise-to h = sym (raise-is ∙ rw (le-leb (x + d) 255 h))
+use Rattle.raise.specs.declared.Weight.{Weight}
+use Rattle.raise.specs.declared.Change.{Change}
+use Rattle.raise.specs.declared.Change.the-variants.{To, Nothing}
+use Rattle.raise.specs.Raise.{to, raiseOf}
+use Rattle.raise.proofs.Raising.{to-head, first-removed, lack}
+use Rattle.raises.specs.Search.{mostRaises, Sought, soughtAs, raiseThen, heavyThen, searchFrom}
+use Rattle.raises.proofs.Ends.{heavy-at}
 
 -- ---- the search
 

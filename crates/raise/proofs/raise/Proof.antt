@@ -1,8 +1,8 @@
 -- `raise` meets its contract.
 use borrow.Author.Needs.{needs}
-use Rattle.finding_weights.proofs.Raising.{raise-none, raise-above, raise-to}
-use Rattle.finding_weights.proofs.raise.Statement.{statement}
-use Rattle.finding_weights.proofs.raise.Tie as tie
+use Rattle.raise.proofs.Raising.{raise-none, raise-above, raise-to}
+use Rattle.raise.proofs.raise.Statement.{statement}
+use Rattle.raise.proofs.raise.Tie as tie
 
 pub raise-spec : {M : Type 1} → statement M
 raise-spec =

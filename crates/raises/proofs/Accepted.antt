@@ -10,10 +10,12 @@ use lib.ListN.{length, getD, set, replicate, length-set, length-replicate}
 use Rattle.model.specs.Table.{Head, Rule, noRule}
 use Rattle.model.specs.Weights.{weightIn, firstZero, firstHeavy}
 use Rattle.model.proofs.Every.{every, every-at}
-use Rattle.finding_weights.specs.declared.Change.{Change}
-use Rattle.finding_weights.specs.declared.Change.the-variants.{To, Nothing}
-use Rattle.finding_weights.specs.Search.{to, raiseOf, mostRaises, Sought, found, stopped, searchFrom, searchOf}
-use Rattle.finding_weights.proofs.Ends.{Heavy, raised, heavy-at, Ends, ends}
+use Rattle.raise.specs.declared.Change.{Change}
+use Rattle.raise.specs.declared.Change.the-variants.{To, Nothing}
+use Rattle.raise.specs.Raise.{to, raiseOf}
+use Rattle.raise.proofs.Raising.{raised}
+use Rattle.raises.specs.Search.{mostRaises, Sought, found, stopped, searchFrom, searchOf}
+use Rattle.raises.proofs.Ends.{Heavy, heavy-at, Ends, ends}
 
 -- ---- what holds of each weight, by its symbol
 

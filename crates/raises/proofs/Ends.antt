@@ -1,21 +1,21 @@
 -- How a search ends. The first rule that does not lose weight is a rule of the table whose removed heads weigh no more than its body; so a raise adds
 -- something to its first removed head. What holds at the start, and is kept by each raise of such a rule, holds at the end.
-use Prim.Native.Nat.{ℕ, zero, suc, _+_, _-_, _<_, _≤_}
-use mathlib.Core.Path.{_≡_, refl, sym, ap, subst}
-use mathlib.Core.Bool.{Bool, true, false, cond}
+use Prim.Native.Nat.{ℕ, zero, suc, _+_, _<_, _≤_}
+use mathlib.Core.Path.{_≡_, refl, subst}
+use mathlib.Core.Bool.{Bool, true, false}
 use mathlib.Core.Option.{Option, none, some}
 use mathlib.Core.List.{List, [], _∷_}
 use native.Mathlib.Omega.{arith}
-use lib.Dec.{leb, ltb}
+use lib.Dec.{ltb}
 use lib.ListN.{length, getD, set}
-use borrow.Author.Tests.{leb-true, ltb-false}
+use borrow.Author.Tests.{ltb-false}
 use Rattle.model.specs.declared.Symbol.{Symbol}
-use Rattle.model.specs.Table.{Head, Rule, noRule}
+use Rattle.model.specs.Table.{Rule, noRule}
 use Rattle.model.specs.Weights.{weightIn, headsWeight, bodyWeight, firstHeavy}
-use Rattle.finding_weights.specs.declared.Weight.{Weight}
-use Rattle.finding_weights.specs.declared.Change.{Change}
-use Rattle.finding_weights.specs.declared.Change.the-variants.{To, Nothing}
-use Rattle.finding_weights.specs.Search.{to, raiseBy, raiseOf, Sought, found, stopped, soughtAs, raiseThen, heavyThen, searchFrom}
+use Rattle.raise.specs.declared.Change.{Change}
+use Rattle.raise.specs.declared.Change.the-variants.{To, Nothing}
+use Rattle.raise.specs.Raise.{to, raiseOf}
+use Rattle.raises.specs.Search.{Sought, found, stopped, soughtAs, raiseThen, heavyThen, searchFrom}
 
 -- ---- the first rule that does not lose weight
 
@@ -46,45 +46,6 @@ heavy-from w k (r ∷ rs) n e = go (ltb (bodyWeight w (r .body)) (headsWeight w 
 
 pub heavy-at : (w : Symbol → ℕ) (rs : List Rule) (n : ℕ) → firstHeavy w 0 rs ≡ some n → Heavy w rs n
 heavy-at w rs n e = let h = heavy-from w 0 rs n e in let z : h .at ≡ n = omega (arith, h .is) in subst (Heavy w rs) z (h .heavy)
-
--- ---- what a raise does
-
--- the first of these heads has its symbol s raised by d to x
-pub record RaisedBy (ws : List ℕ) (d : ℕ) (hs : List Head) (s x : ℕ) : Type 0 where
-  pub head : Head
-  pub rest : List Head
-  pub first : hs ≡ head ∷ rest
-  pub symbol : s ≡ head .symbol .0
-  pub weight : x ≡ getD ws s 1 + d
-  pub small : x ≤ 255
-
--- a change says its symbol and its weight
-pub to-same : {a b s x : ℕ} → to a b ≡ to s x → (a ≡ s) × (b ≡ x)
-to-same {a} {b} {s} {x} e =
-    let symbols : _≡_ {A = Symbol} (record { 0 = a }) (record { 0 = s }) = cc in
-    let weights : _≡_ {A = Weight} (record { 0 = b }) (record { 0 = x }) = cc in
-    (ap (λ (z : Symbol). z .0) symbols, ap (λ (z : Weight). z .0) weights)
-
-pub raised-by : (ws : List ℕ) (d : ℕ) (hs : List Head) (s x : ℕ) → raiseBy ws d hs ≡ to s x → RaisedBy ws d hs s x
-unfolding raiseBy
-raised-by ws d [] s x e = absurd (let z : _≡_ {A = ℕ} 0 1 = cc in omega arith)
-raised-by ws d (h ∷ hs) s x e = go (leb (weightIn ws (h .symbol) + d) 255) refl e
-  where
-    go : (b : Bool) → leb (weightIn ws (h .symbol) + d) 255 ≡ b → cond b (to (h .symbol .0) (weightIn ws (h .symbol) + d)) Nothing ≡ to s x
-        → RaisedBy ws d (h ∷ hs) s x
-    go true t q =
-        let y : s ≡ h .symbol .0 = sym (to-same q .0) in
-        let z : x ≡ weightIn ws (h .symbol) + d = sym (to-same q .1) in
-        record { head = h; rest = hs; first = refl; symbol = y; weight = rw y z; small = omega (arith, leb-true (weightIn ws (h .symbol) + d) 255 t) }
-    go false t q = absurd (let z : _≡_ {A = ℕ} 0 1 = cc in omega arith)
-
--- by how much a rule is raised
-abbrev pub lack : List ℕ → Rule → ℕ
-lack ws r = suc (bodyWeight (weightIn ws) (r .body)) - headsWeight (weightIn ws) (r .removed)
-
-pub raised : (ws : List ℕ) (r : Rule) (s x : ℕ) → raiseOf ws r ≡ to s x → RaisedBy ws (lack ws r) (r .removed) s x
-unfolding raiseOf
-raised ws r = raised-by ws (lack ws r) (r .removed)
 
 -- ---- the end
 

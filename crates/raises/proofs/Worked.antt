@@ -5,7 +5,8 @@ use mathlib.Core.Option.{none}
 use mathlib.Core.List.{List, [], _∷_}
 use Rattle.model.specs.Table.{Head, Rule, BodyItem, bodyFact}
 use Rattle.model.specs.Weights.{weightIn, headsWeight, bodyWeight, firstHeavy}
-use Rattle.finding_weights.specs.Search.{raiseBy, raiseOf, found, stopped, raiseThen, heavyThen, searchFrom, searchOf}
+use Rattle.raise.specs.Raise.{raiseBy, raiseOf}
+use Rattle.raises.specs.Search.{found, stopped, raiseThen, heavyThen, searchFrom, searchOf}
 
 abbrev pub head : ℕ → Head
 head s = record { symbol = record { 0 = s }; slots = [] }

@@ -1,7 +1,7 @@
 -- `deficit` meets its contract.
 use borrow.Author.Needs.{needs}
-use Rattle.finding_weights.proofs.deficit.Statement.{statement}
-use Rattle.finding_weights.proofs.deficit.Tie as tie
+use Rattle.raise.proofs.deficit.Statement.{statement}
+use Rattle.raise.proofs.deficit.Tie as tie
 
 pub deficit-spec : {M : Type 1} → statement M
 deficit-spec = tie.close (tie.spec (λ c. search needs) (λ c. search needs) (λ c. search needs) (λ c. search needs) (λ c. search needs))

@@ -2,11 +2,11 @@
 use native.Mathlib.Omega.{arith}
 use borrow.Author.Needs.{needs}
 use Rattle.model.specs.Table.{tableOf}
-use Rattle.finding_weights.specs.Search.{mostRaises, searchFrom}
-use Rattle.finding_weights.proofs.Raising.{Left, shape-inside, shape-lies, symbol-inside, search-begins, search-ends, search-finds, search-stops}
-use Rattle.finding_weights.proofs.Raising.{search-goes-on}
-use Rattle.finding_weights.proofs.search.Statement.{statement}
-use Rattle.finding_weights.proofs.search.Tie as tie
+use Rattle.raises.specs.Search.{mostRaises, searchFrom}
+use Rattle.raises.proofs.Turns.{Left, shape-inside, shape-lies, symbol-inside, search-begins, search-ends, search-finds, search-stops}
+use Rattle.raises.proofs.Turns.{search-goes-on}
+use Rattle.raises.proofs.search.Statement.{statement}
+use Rattle.raises.proofs.search.Tie as tie
 
 abbrev Inv-loop : tie.InvT-loop
 Inv-loop table weights₀ reading left₀ weights left = Left table reading (searchFrom mostRaises (tableOf table .rules) weights₀) weights left
