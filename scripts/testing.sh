@@ -4,8 +4,9 @@
 # The library for C, which make_library writes.
 library=target/staticlib/libnadhirukh.a
 
-# rt starts so many checks, and waits for the longest of them before it starts the next. With twice the processors none is idle meanwhile.
-export RT_JOBS=${RT_JOBS:-$((2 * $(nproc)))}
+# rt starts so many checks, of up to 1 GB each, and waits for the longest of them before it starts the next. The more there are, the less is a
+# processor idle meanwhile.
+export RT_JOBS=${RT_JOBS:-8}
 
 # This file, which a command that runs alone holds a lock on.
 testing=$(realpath "${BASH_SOURCE[0]}")
