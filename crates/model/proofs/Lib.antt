@@ -8,6 +8,7 @@ pub mod Longest
 pub mod Loop
 pub mod Sound
 pub mod Places
+pub mod Listed
 pub mod Ranges
 pub mod Kept
 pub mod Order
