@@ -32,11 +32,11 @@ use Rattle.model.specs.Steps.{remembered, prunes, activated, advanced, d
 use Rattle.model.specs.Steps.{withinHistory, withinStack, withBody, withFound, atPlace, activate, stepWith, stepItem}
 use Rattle.model.specs.Results.{Counts, noCounts}
 use Rattle.model.specs.Run.{Ended, endedAs, stepped, firedOnce, runFrom, run}
-use Rattle.model.proofs.Every.{every, every-both, every-append, every-weaken, every-map}
+use Rattle.model.proofs.Every.{every, every-append, every-weaken, every-map}
 use Rattle.model.proofs.Lists.{every-snoc, every-mem, every-kept, every-getD, keep-length, OptionIs, index-is}
 use Rattle.model.proofs.Loop.{behindStep, every-run}
 use Rattle.model.proofs.Sound.{FoundIs, Instance, instance-is}
-use Rattle.model.proofs.Decoded.{PlaceIn, places-in}
+use Rattle.model.proofs.Endings.{EndsWith, at-none, StopsWith, step-ends}
 use Rattle.model.proofs.Places.{places-have}
 use Rattle.model.proofs.Ranges.{FactRanged, BindingRanged, ItemRanged, TableRanged, found-ranged, arguments-ranged, fact-ranged}
 
@@ -158,26 +158,26 @@ module _ (t : Table) (n : ℕ) (b : Binding) (k : BindingRanged b) where
 
 -- ---- a step
 
--- what is kept of the state after a step; an ending without a step is one of 3 to 7, and names no rule but one of the table's
+-- what is kept of the state after a step
 abbrev pub OutcomeKept : Table → ℕ → Outcome → Type 0
 OutcomeKept t k (moves st) = Kept t k st
 OutcomeKept t k (fires st) = Kept t k st
 OutcomeKept t k fails = Unit {0}
-OutcomeKept t k (stops n p) = (3 ≤ n) × (n ≤ 7) × (p ≤ length (t .rules))
+OutcomeKept t k (stops n p) = Unit {0}
 
 -- all but the room of a firing's stack and history, which the step tests
-within-kept : (t : Table) (k : ℕ) (n : RuleNumber) (after : State) → n .0 < length (t .rules)
+within-kept : (t : Table) (k : ℕ) (n : RuleNumber) (after : State)
     → (length (after .stack) ≤ stackRoom → length (after .history) ≤ historyRoom → Kept t k after)
     → OutcomeKept t k (withinStack prunes (leb (length (after .stack)) stackRoom) n after)
-within-kept t k n after h both = go (leb (length (after .stack)) stackRoom) refl
+within-kept t k n after both = go (leb (length (after .stack)) stackRoom) refl
   where
     room : leb (length (after .stack)) stackRoom ≡ true → (y : Bool) → leb (length (after .history)) historyRoom ≡ y → OutcomeKept t k (withinHistory y n after)
     room a true b = both (leb-true (length (after .stack)) stackRoom a) (leb-true (length (after .history)) historyRoom b)
-    room a false b = omega arith
+    room a false b = tt
 
     go : (x : Bool) → leb (length (after .stack)) stackRoom ≡ x → OutcomeKept t k (withinStack prunes x n after)
     go true a = room a (leb (length (after .history)) historyRoom) refl
-    go false a = omega arith
+    go false a = tt
 
 -- a given identifier stays given
 later : (t : Table) (n : ℕ) (s : Symbol) (i : Item) → ItemKept t n s i → ItemKept t (suc n) s i
@@ -218,13 +218,13 @@ module _ (t : Table) (r : TableRanged t) (k : ℕ) (st : State) (e : Entry) (es 
       (λ s m. every-mem (λ (s : Stored). (1 ≤ s .id .0) × (s .id .0 < st .next)) (st .store) (rising-within 1 (st .next) (st .store) (z .rising)) s m .1)
       (c .facts) (c .stored)))
 
-  body-step : (i : FactId) (p : HeadPlace) → PlaceIn t (e .symbol) p → (chosen : List FactId) (b : Binding)
+  body-step : (i : FactId) (p : HeadPlace) (chosen : List FactId) (b : Binding)
       → Instance (st .store) (st .history) p (ruleAt t (p .rule)) i chosen b
       → (o : Option (List Entry)) → OptionIs (every (EntryKept t (st .next))) o → OutcomeKept t (suc k) (withBody prunes t st e es p chosen o)
   unfolding fired without firedOf
-  body-step i p at chosen b c none u = omega (arith, at .ruleIn)
-  body-step i p at chosen b c (some body) u =
-      within-kept t (suc k) (p .rule) (fired prunes st e es p (ruleAt t (p .rule)) chosen body) (at .ruleIn)
+  body-step i p chosen b c none u = tt
+  body-step i p chosen b c (some body) u =
+      within-kept t (suc k) (p .rule) (fired prunes st e es p (ruleAt t (p .rule)) chosen body)
       (λ roomy short. record {
         stack = roomy;
         store = omega (arith, z .store, keep-length (λ (s : Stored). not (isAmong (s .id) (gone (ruleAt t (p .rule)) chosen))) (st .store));
@@ -239,12 +239,11 @@ module _ (t : Table) (r : TableRanged t) (k : ℕ) (st : State) (e : Entry) (es 
       })
 
   found-step : (i : FactId) (j : Occurrence) → ActiveKept t (st .next) (e .symbol) i (j .0) → j .0 - 1 < length (places t (e .symbol)) → (p : HeadPlace)
-      → PlaceIn t (e .symbol) p
       → every ItemRanged (ruleAt t (p .rule) .body) → (o : Found)
       → FoundIs (Instance (st .store) (st .history) p (ruleAt t (p .rule)) i) o → FoundIs (λ chosen b. BindingRanged b) o
       → OutcomeKept t (suc k) (withFound prunes t st e es i (j .0) p o)
   unfolding advanced
-  found-step i j a l p at m nothing u v = record {
+  found-step i j a l p m nothing u v = record {
     stack = deep;
     store = z .store;
     history = z .history;
@@ -254,12 +253,12 @@ module _ (t : Table) (r : TableRanged t) (k : ℕ) (st : State) (e : Entry) (es 
     entries = (record { from = a .from; given = a .given; first = omega arith; last = omega (arith, a .first) }, both .1);
     fired = z .fired;
   }
-  found-step i j a l p at m undefinedGuard u v = omega (arith, at .ruleIn)
-  found-step i j a l p at m (applies chosen b) u v =
-      body-step i p at chosen b u (bodyEntries b (ruleAt t (p .rule) .body)) (body-kept t (st .next) b v (ruleAt t (p .rule) .body) m)
+  found-step i j a l p m undefinedGuard u v = tt
+  found-step i j a l p m (applies chosen b) u v =
+      body-step i p chosen b u (bodyEntries b (ruleAt t (p .rule) .body)) (body-kept t (st .next) b v (ruleAt t (p .rule) .body) m)
 
   place-step : (i : FactId) (j : Occurrence) → ActiveKept t (st .next) (e .symbol) i (j .0) → (o : Option HeadPlace)
-      → OptionIs (λ p. (PlaceIn t (e .symbol) p × every ItemRanged (ruleAt t (p .rule) .body)) × (j .0 - 1 < length (places t (e .symbol)))) o
+      → OptionIs (λ p. every ItemRanged (ruleAt t (p .rule) .body) × (j .0 - 1 < length (places t (e .symbol)))) o
       → OutcomeKept t (suc k) (atPlace prunes t st e es i (j .0) o)
   unfolding dropped
   place-step i j a none u = record {
@@ -273,7 +272,7 @@ module _ (t : Table) (r : TableRanged t) (k : ℕ) (st : State) (e : Entry) (es 
     fired = z .fired;
   }
   place-step i j a (some p) u =
-      found-step i j a (u .1) p (u .0 .0) (u .0 .1) (firstInstance (st .store) (st .history) p (ruleAt t (p .rule)) i)
+      found-step i j a (u .1) p (u .0) (firstInstance (st .store) (st .history) p (ruleAt t (p .rule)) i)
       (instance-is (st .store) (st .history) p (ruleAt t (p .rule)) i) (found-ranged (st .store) (st .history) p (ruleAt t (p .rule)) i (z .facts))
 
   activate-step : (f : Fact) → WaitingKept (e .symbol) f → (x : Bool) → ltb (length (st .store)) storeRoom ≡ x → OutcomeKept t (suc k) (activate st e es f x)
@@ -293,19 +292,15 @@ module _ (t : Table) (r : TableRanged t) (k : ℕ) (st : State) (e : Entry) (es 
         (λ x q. every-weaken (λ (i : FactId). i .0 < st .next) (λ (i : FactId). i .0 < suc (st .next)) (λ i l. omega arith) (x .ids) q) (st .history)
         (z .fired);
   }
-  activate-step f w false b = omega arith
-
-  places-kept : every (λ (p : HeadPlace). PlaceIn t (e .symbol) p × every ItemRanged (ruleAt t (p .rule) .body)) (places t (e .symbol))
-  places-kept =
-      every-both (PlaceIn t (e .symbol)) _ (places t (e .symbol)) (places-in t (e .symbol))
-      (places-have t (e .symbol) (λ (r : Rule). every ItemRanged (r .body)) r)
+  activate-step f w false b = tt
 
   item-step : (it : Item) → ItemKept t (st .next) (e .symbol) it → OutcomeKept t (suc k) (stepItem t st e es it)
   unfolding stepWith
   item-step (Waiting f) w = activate-step f w (ltb (length (st .store)) storeRoom) refl
   item-step (Active i j) a =
       place-step i j a (getElem? (places t (e .symbol)) (j .0 - 1))
-      (index-is (λ (p : HeadPlace). PlaceIn t (e .symbol) p × every ItemRanged (ruleAt t (p .rule) .body)) (places t (e .symbol)) (j .0 - 1) places-kept)
+      (index-is (λ (p : HeadPlace). every ItemRanged (ruleAt t (p .rule) .body)) (places t (e .symbol)) (j .0 - 1)
+      (places-have t (e .symbol) (λ (r : Rule). every ItemRanged (r .body)) r))
   item-step Fail a = tt
 
   -- Each step keeps it.
@@ -316,8 +311,7 @@ module _ (t : Table) (r : TableRanged t) (k : ℕ) (st : State) (e : Entry) (es 
 
 -- of the result of a run from where the counts are c and `limit` steps are left
 pub record EndKept (t : Table) (limit : ℕ) (c : Counts) (r : Ended) : Type 0 where
-  pub number : r .result .number ≤ 7
-  pub place : r .result .place ≤ length (t .rules)
+  pub ends : EndsWith t (r .result .number) (r .result .place)
   pub steps : r .result .steps ≤ c .steps + limit
   pub firings : r .result .firings + c .steps ≤ r .result .steps + c .firings
   pub identifiers : r .result .identifiers ≤ r .result .steps
@@ -327,16 +321,15 @@ pub record EndKept (t : Table) (limit : ℕ) (c : Counts) (r : Ended) : Type 0 w
   pub facts : every StoredKept (r .store)
 
 -- an ending with the counts d, in a state that is kept: where c was counted, or one step later
-end-kept : (t : Table) (limit : ℕ) (c d : Counts) (st : State) → Kept t (c .steps) st → (n p : ℕ) → n ≤ 7 → p ≤ length (t .rules)
+end-kept : (t : Table) (limit : ℕ) (c d : Counts) (st : State) → Kept t (c .steps) st → (n p : ℕ) → EndsWith t n p
     → c .steps ≤ d .steps → d .steps ≤ c .steps + limit → d .firings ≡ c .firings
     → EndKept t limit c (endedAs n p d st)
 unfolding endedAs
-end-kept t limit c d st z n p h g a b f =
+end-kept t limit c d st z n p h a b f =
     let low = rising-le 1 (st .next) (st .store) (z .rising) in
     let given : st .next ≡ suc (st .next - 1) = omega (arith, low) in
     record {
-      number = h;
-      place = g;
+      ends = h;
       steps = b;
       firings = omega arith;
       identifiers = omega (arith, z .given);
@@ -350,8 +343,7 @@ end-kept t limit c d st z n p h g a b f =
 one-more : (t : Table) (limit : ℕ) (c d : Counts) (r : Ended) → d .steps ≡ suc (c .steps) → d .firings ≤ suc (c .firings)
     → EndKept t limit d r → EndKept t (suc limit) c r
 one-more t limit c d r e h x = record {
-  number = x .number;
-  place = x .place;
+  ends = x .ends;
   steps = omega (arith, x .steps);
   firings = omega (arith, x .firings);
   identifiers = x .identifiers;
@@ -364,13 +356,13 @@ one-more t limit c d r e h x = record {
 module _ (t : Table) (r : TableRanged t) where
   behind-kept : (limit : ℕ) (c : Counts) (st : State) → Kept t (c .steps) st
       → ((c : Counts) (st : State) → Kept t (c .steps) st → EndKept t limit c (runFrom t limit c st))
-      → (o : Outcome) → OutcomeKept t (suc (c .steps)) o → EndKept t (suc limit) c (behindStep prunes t limit c st o)
-  behind-kept limit c st z ih (moves next) u = one-more t limit c (stepped c) _ refl (omega arith) (ih (stepped c) next u)
-  behind-kept limit c st z ih (fires next) u = one-more t limit c (firedOnce c) _ refl (omega arith) (ih (firedOnce c) next u)
-  behind-kept limit c st z ih fails u =
-      end-kept t (suc limit) c (stepped c) st z 1 0 (omega arith) (omega arith) (omega arith) (omega arith) refl
-  behind-kept limit c st z ih (stops n p) u =
-      end-kept t (suc limit) c c st z n p (omega arith) (omega arith) (omega arith) (omega arith) refl
+      → (o : Outcome) → OutcomeKept t (suc (c .steps)) o → StopsWith t o → EndKept t (suc limit) c (behindStep prunes t limit c st o)
+  behind-kept limit c st z ih (moves next) u v = one-more t limit c (stepped c) _ refl (omega arith) (ih (stepped c) next u)
+  behind-kept limit c st z ih (fires next) u v = one-more t limit c (firedOnce c) _ refl (omega arith) (ih (firedOnce c) next u)
+  behind-kept limit c st z ih fails u v =
+      end-kept t (suc limit) c (stepped c) st z 1 0 (at-none 1 (omega arith) refl) (omega arith) (omega arith) refl
+  behind-kept limit c st z ih (stops n p) u v =
+      end-kept t (suc limit) c c st z n p v (omega arith) (omega arith) refl
 
   -- Every result of a run.
   pub run-kept : (goal : List Fact) → length goal ≤ mostGoalFacts → every FactRanged goal → (limit : ℕ)
@@ -378,7 +370,8 @@ module _ (t : Table) (r : TableRanged t) where
   unfolding run
   run-kept goal h u limit =
       every-run t (λ limit c st r. Kept t (c .steps) st → EndKept t limit c r)
-      (λ limit c st q z. end-kept t limit c c st z 0 0 (omega arith) (omega arith) (omega arith) (omega arith) refl)
-      (λ c st z. end-kept t 0 c c st z 2 0 (omega arith) (omega arith) (omega arith) (omega arith) refl)
-      (λ limit c st e es q ih z. behind-kept limit c st z ih (stepItem t st e es (e .item)) (step-kept t r (c .steps) st e es z q))
+      (λ limit c st q z. end-kept t limit c c st z 0 0 (at-none 0 (omega arith) refl) (omega arith) (omega arith) refl)
+      (λ c st z. end-kept t 0 c c st z 2 0 (at-none 2 (omega arith) refl) (omega arith) (omega arith) refl)
+      (λ limit c st e es q ih z. behind-kept limit c st z ih (stepItem t st e es (e .item)) (step-kept t r (c .steps) st e es z q)
+      (step-ends prunes t st e es (e .item)))
       limit noCounts (start goal) (start-kept t goal h u)

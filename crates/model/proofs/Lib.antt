@@ -10,6 +10,7 @@ pub mod Sound
 pub mod Places
 pub mod Listed
 pub mod Ranges
+pub mod Endings
 pub mod Kept
 pub mod Order
 pub mod Results

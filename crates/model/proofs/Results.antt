@@ -23,6 +23,7 @@ use Rattle.model.specs.Calls.{RunOutput, refusedRun, answerIf, outputOf,
 use Rattle.model.proofs.Good.{TableRefusal, GoalRefusal, refusal-small, goal-places, good-table, good-goal}
 use Rattle.model.proofs.Decoded.{rules-few, goal-few}
 use Rattle.model.proofs.Ranges.{AreBytes, table-ranged, goal-ranged}
+use Rattle.model.proofs.Endings.{place-few}
 use Rattle.model.proofs.Kept.{EndKept, run-kept}
 use Rattle.wire.specs.Wire.{bytes4}
 
@@ -102,8 +103,8 @@ ran-kept : (t g : List ℕ) (limit : ℕ) (buffer : List ℕ) (r : Ended) → le
     → OutputKept limit buffer (outputOf r buffer)
 unfolding outputOf
 ran-kept t g limit buffer r few e k = record {
-  number = omega (arith, e .number);
-  place = omega (arith, e .place);
+  number = omega (arith, e .ends .number);
+  place = omega (arith, place-few (e .ends));
   steps = omega (arith, e .steps);
   limited = omega (arith, e .steps, k .limited);
   firings = omega (arith, e .firings);
