@@ -17,4 +17,5 @@ pub mod Results
 pub mod Weight
 pub mod Demand3
 pub mod Pruning
+pub mod Cut
 pub mod Compacting
