@@ -165,7 +165,7 @@ abbrev case : Bytes → Bytes → ℕ → List ℕ → Bytes → Case
 case t g limit n a = runs t g limit 2816 n a
 
 -- numbers 16 and above have all four counts 0
-abbrev refused : ℕ → ℕ → List ℕ
+abbrev pub refused : ℕ → ℕ → List ℕ
 refused n p = n ∷ p ∷ 0 ∷ 0 ∷ 0 ∷ 0 ∷ []
 
 most : ℕ
@@ -269,28 +269,28 @@ cases =
 
 -- ---- the claim
 
-same : List ℕ → List ℕ → Bool
+unfoldable pub same : List ℕ → List ℕ → Bool
 same [] [] = true
 same [] (y ∷ ys) = false
 same (x ∷ xs) [] = false
 same (x ∷ xs) (y ∷ ys) = eqb x y && same xs ys
 
-numbersOf : CallResult → List ℕ
+unfoldable pub numbersOf : CallResult → List ℕ
 numbersOf r = r .number ∷ r .place ∷ r .steps ∷ r .firings ∷ r .identifiers ∷ r .stored ∷ []
 
 -- the buffer holds 165 before the call
-ran : RunOutput → ℕ → List ℕ → Bytes → Bool
+unfoldable pub ran : RunOutput → ℕ → List ℕ → Bytes → Bool
 ran r room n a = same (numbersOf (r .result)) n && same (r .answer) (a ++ replicate (room - length a) 165)
 
-weighedAs : Weighing → List ℕ → Bool
+unfoldable pub weighedAs : Weighing → List ℕ → Bool
 weighedAs w n = same (numbersOf (w .result) ++ (w .weight ∷ w .bound ∷ [])) n
 
-agrees : Case → Bool
+unfoldable pub agrees : Case → Bool
 agrees (runs t g limit room n a) = ran (runOf t g limit (replicate room 165)) room n a
 agrees (checks t n) = same (numbersOf (checkOf t)) n
 agrees (weighs t w g n) = weighedAs (weighOf t w g) n
 
-pub allAgree : List Case → Bool
+unfoldable pub allAgree : List Case → Bool
 allAgree [] = true
 allAgree (c ∷ cs) = agrees c && allAgree cs
 

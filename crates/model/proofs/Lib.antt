@@ -1,5 +1,6 @@
 pub mod Build
 pub mod Cases
+pub mod Matrix
 pub mod Every
 pub mod Lists
 pub mod Good
