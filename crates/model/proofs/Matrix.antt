@@ -198,7 +198,7 @@ expressions : (Form → Spot) → List ℕ → List Case
 expressions r is =
     let alone : Spot = r (only (var 0)) in
     let both : Spot = r (op 1 (var 0) (var 1)) in
-    -- a slot alone, the second unused; variable 7 is in no head
+    -- a slot alone, the second unused; variable 7 is in no head, and a constant there is no variable
     crossed alone 0 (further 1 is) usedGood
     ++ crossed alone 20 (further 1 is) usedBad
     ++ crossed alone 22 (further 1 is) (tagged 2 7 ∷ [])
@@ -213,9 +213,9 @@ expressions r is =
     ++ crossed both 20 (further 6 is) usedBad
     ++ crossed both 22 (further 6 is) (tagged 2 7 ∷ [])
 
--- p(X,Y,Z,W) ==> ..
+-- p(X,Y,7,W) ==> .., where W is variable 15
 headed : Bytes
-headed = symbol 4 then rule then kept 0 (first 4)
+headed = symbol 4 then rule then kept 0 (var 0 ∷ var 1 ∷ num (pos 7) ∷ var 15 ∷ [])
 
 -- a comparison's comparator and two expressions
 guards : List Case
