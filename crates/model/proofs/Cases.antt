@@ -1,11 +1,11 @@
 -- The worked runs of document 01, and others beside them, as one table with one claim: the definition, computed from the bytes on, gives
 -- each case's numbers, and every byte of the answer buffer. So the definition is held to numbers that were worked out without it.
 use Prim.Native.Nat.{ℕ, zero, suc, _-_}
-use mathlib.Core.Bool.{Bool, true, false, _&&_}
+use mathlib.Core.Bool.{Bool, true, false, _&&_, _||_}
 use mathlib.Core.List.{List, [], _∷_, _++_}
 use lib.IntN.{ℤ, pos, negsuc}
-use lib.Dec.{T, eqb}
-use lib.ListN.{length, replicate}
+use lib.Dec.{T, eqb, ltb}
+use lib.ListN.{length, replicate, getD}
 use Rattle.model.specs.declared.CallResult.{CallResult}
 use Rattle.model.specs.Calls.{RunOutput, runOf}
 use Rattle.model.proofs.Build.{Bytes, _then_, Term, var, num, only, op, symbol, rule, kept, removed, test, adds, failing, finish, fact, stored}
@@ -238,6 +238,13 @@ cases =
     ∷ checks (symbol 0 then finish then zeros 2) (refused 23 3)
     -- a run's tests, in their order
     ∷ case (9 ∷ []) (1 ∷ []) 20000001 (refused 16 0) []
+    ∷ runs [] (1 ∷ []) 20000001 0 (refused 17 0) []
+    ∷ runs (symbol 0 then rule then kept 0 [] then symbol 0 then finish) (1 ∷ []) 20000001 0 (refused 18 25) []
+    ∷ runs (symbol 0 then rule then times 5 (kept 0 []) then finish) (1 ∷ []) 20000001 0 (refused 19 91) []
+    ∷ runs (symbol 5 then finish) (1 ∷ []) 20000001 0 (refused 20 0) []
+    ∷ runs (symbol 0 then rule then finish) (1 ∷ []) 20000001 0 (refused 21 3) []
+    ∷ runs (symbol 1 then rule then kept 0 (X ∷ []) then test 0 (only Y) (only X) then finish) (1 ∷ []) 20000001 0 (refused 22 25) []
+    ∷ runs (symbol 0 then finish then zeros 2) (1 ∷ []) 20000001 0 (refused 23 3) []
     ∷ case tableA (16 ∷ []) 20000001 (refused 32 0) []
     ∷ case tableA (times 65 (bare 9)) most (refused 34 0) []
     ∷ case tableA (mu 7 310 then bare 1) most (refused 33 1) []
@@ -307,3 +314,31 @@ unfolding tableA mu copies pairs divides counts negative twoB minus triangles pa
     guardBad bodyFactBad badField slotBy slotAt expressionAt u32At signedOf bitsOf i32At bytes4 inRange exact unlessZero sumOf differenceOf productOf
     quotientOf remainderOf operate onNumbers evaluate holds judge compare
 workedRuns = tt
+
+-- ---- the numbers of a run: each is that of one case or more, on bytes and a limit of 32 bits
+
+abbrev pub runNumbers : List ℕ
+runNumbers =
+    0 ∷ 1 ∷ 2 ∷ 3 ∷ 4 ∷ 5 ∷ 6 ∷ 7 ∷ 16 ∷ 17 ∷ 18 ∷ 19 ∷ 20 ∷ 21 ∷ 22 ∷ 23 ∷ 32 ∷ 33 ∷ 34 ∷ 35 ∷ 36 ∷ []
+
+unfoldable pub areBytes : Bytes → Bool
+areBytes [] = true
+areBytes (b ∷ bs) = ltb b 256 && areBytes bs
+
+unfoldable pub gives : ℕ → Case → Bool
+gives n (runs t g limit room ns a) = eqb (getD ns 0 0) n && (ltb limit 4294967296 && (areBytes t && areBytes g))
+gives n (checks t ns) = false
+gives n (weighs t w g ns) = false
+
+unfoldable pub someGives : ℕ → List Case → Bool
+someGives n [] = false
+someGives n (c ∷ cs) = gives n c || someGives n cs
+
+unfoldable pub allGiven : List ℕ → List Case → Bool
+allGiven [] cs = true
+allGiven (n ∷ ns) cs = someGives n cs && allGiven ns cs
+
+pub givenNumbers : T (allGiven runNumbers cases)
+unfolding tableA mu copies pairs divides counts negative twoB minus triangles partners fours undone ratios works repeats fourTests failsFirst renames
+    halves grows notes bare doubled most cases bitsOf bytes4 areBytes gives someGives allGiven
+givenNumbers = tt

@@ -15,6 +15,7 @@ pub mod Endings
 pub mod Kept
 pub mod Order
 pub mod Results
+pub mod Numbers
 pub mod Weight
 pub mod Demand3
 pub mod Pruning

@@ -3,6 +3,7 @@
 use Prim.Native.Nat.{ℕ, zero, suc, _*_, _≤_}
 use native.Mathlib.Omega.{arith}
 use mathlib.Core.Path.{_≡_, refl}
+use mathlib.Core.Logic.{_⊎_, inl, inr}
 use mathlib.Core.Bool.{Bool, true, false}
 use mathlib.Core.List.{List, [], _∷_}
 use lib.Dec.{leb}
@@ -36,35 +37,49 @@ pub record Runs (t g : List ℕ) (limit : ℕ) (buffer : List ℕ) : Type 0 wher
   pub limited : limit ≤ greatestLimit
   pub roomy : leastAnswer ≤ length buffer
 
+-- what is known of a refusal: one of 16 to 23 or of 32 to 36
+pub record Refusal (n p : ℕ) : Type 0 where
+  pub low : 16 ≤ n
+  pub high : n ≤ 36
+  pub sort : (n ≤ 23) ⊎ (32 ≤ n)
+  pub near : p ≤ 23681
+
 module _ (P : RunOutput → Type 0) (t g : List ℕ) (limit : ℕ) (buffer : List ℕ)
-    (refuses : (n p : ℕ) → 16 ≤ n → n ≤ 36 → p ≤ 23681 → P (refusedRun n p buffer))
+    (refuses : (n p : ℕ) → Refusal n p → P (refusedRun n p buffer))
     (goes : Runs t g limit buffer → P (outputOf (run (tableOf t) limit (start (goalOf g))) buffer)) where
   module _ (a : readOf t .verdict ≡ Good) where
     module _ (b : goalVerdict t (readOf t .symbols) g ≡ Good) where
       room-case : limit ≤ greatestLimit → (x : Bool) → leb leastAnswer (length buffer) ≡ x → P (ifRoom t g limit buffer x)
       room-case l true q = goes (record { table = a; goal = b; limited = l; roomy = leb-true leastAnswer (length buffer) q })
-      room-case l false q = refuses 36 0 (omega arith) (omega arith) (omega arith)
+      room-case l false q = refuses 36 0 (record { low = omega arith; high = omega arith; sort = inr (omega arith); near = omega arith })
 
       limit-case : (x : Bool) → leb limit greatestLimit ≡ x → P (ifLimit t g limit buffer x)
       limit-case true q = room-case (leb-true limit greatestLimit q) (leb leastAnswer (length buffer)) refl
-      limit-case false q = refuses 35 0 (omega arith) (omega arith) (omega arith)
+      limit-case false q = refuses 35 0 (record { low = omega arith; high = omega arith; sort = inr (omega arith); near = omega arith })
 
     goal-case : (v : Verdict) → goalVerdict t (readOf t .symbols) g ≡ v → P (ifGoal t g limit buffer v)
     goal-case Good q = limit-case q (leb limit greatestLimit) refl
     goal-case (Refused n p) q =
         let r : GoalRefusal n p = goal-places t (readOf t .symbols) g n p q in
-        refuses n p (omega (arith, r .low)) (omega (arith, r .high)) (omega (arith, r .near))
+        refuses n p (record { low = omega (arith, r .low); high = omega (arith, r .high); sort = inr (r .low); near = omega (arith, r .near) })
 
   table-case : (v : Verdict) → readOf t .verdict ≡ v → P (ifTable t g limit buffer v)
   table-case Good q = goal-case q (goalVerdict t (readOf t .symbols) g) refl
   table-case (Refused n p) q =
       let r : TableRefusal n p = refusal-small t n p q in
-      refuses n p (omega (arith, r .low)) (omega (arith, r .high)) (r .near)
+      refuses n p (record { low = r .low; high = omega (arith, r .high); sort = inl (r .high); near = r .near })
 
   -- what holds of each refusal, and of the definition's run, holds of the call
-  pub run-cases : P (runOf t g limit buffer)
+  pub call-cases : P (runOf t g limit buffer)
   unfolding runOf
-  run-cases = table-case (readOf t .verdict) refl
+  call-cases = table-case (readOf t .verdict) refl
+
+-- the same, of a refusal that is known less of
+pub run-cases : (P : RunOutput → Type 0) (t g : List ℕ) (limit : ℕ) (buffer : List ℕ)
+    → ((n p : ℕ) → 16 ≤ n → n ≤ 36 → p ≤ 23681 → P (refusedRun n p buffer))
+    → (Runs t g limit buffer → P (outputOf (run (tableOf t) limit (start (goalOf g))) buffer))
+    → P (runOf t g limit buffer)
+run-cases P t g limit buffer refuses goes = call-cases P t g limit buffer (λ n p r. refuses n p (r .low) (r .high) (r .near)) goes
 
 -- ---- the answer
 
