@@ -10,12 +10,15 @@ use mathlib.Core.List.{List, [], _∷_, _++_, List·Memᴰ, List·Memᴰ·head, 
 use lib.Dec.{T, eqb, ltb}
 use lib.ListN.{replicate, getD}
 use borrow.Author.Tests.{eqb-true, ltb-true}
+use Rattle.model.specs.declared.Verdict.the-variants.{Refused}
+use Rattle.model.specs.Reading.{readOf}
 use Rattle.model.specs.Table.{tableOf}
 use Rattle.model.specs.Steps.{start}
 use Rattle.model.specs.Goal.{goalOf}
 use Rattle.model.specs.Calls.{RunOutput, outputOf, runOf}
 use Rattle.model.proofs.Every.{every}
 use Rattle.model.proofs.Lists.{every-mem, and-left, and-right}
+use Rattle.model.proofs.Good.{refusal-small}
 use Rattle.model.proofs.Ranges.{AreBytes}
 use Rattle.model.proofs.Endings.{run-ends}
 use Rattle.model.proofs.Results.{Refusal, call-cases}
@@ -55,11 +58,11 @@ among i (suc k) n l h = go (λ m. among (suc i) k n m (omega arith)) (eq-or-lt-o
 ending : (n : ℕ) → n ≤ 7 → List·Memᴰ n runNumbers
 ending n l = Memᴰ·append-left {s = upFrom 0 8} (upFrom 16 8 ++ upFrom 32 5) (among 0 8 n (omega arith) (omega arith))
 
-refusing : (n p : ℕ) → Refusal n p → List·Memᴰ n runNumbers
-refusing n p r = Memᴰ·append-right (upFrom 0 8) (go (r .sort))
+refusing : (t : List ℕ) (n p : ℕ) → Refusal t n p → List·Memᴰ n runNumbers
+refusing t n p r = Memᴰ·append-right (upFrom 0 8) (go (r .sort))
   where
-    go : (n ≤ 23) ⊎ (32 ≤ n) → List·Memᴰ n (upFrom 16 8 ++ upFrom 32 5)
-    go (inl h) = Memᴰ·append-left (upFrom 32 5) (among 16 8 n (r .low) (omega arith))
+    go : (readOf t .verdict ≡ Refused n p) ⊎ (32 ≤ n) → List·Memᴰ n (upFrom 16 8 ++ upFrom 32 5)
+    go (inl e) = Memᴰ·append-left (upFrom 32 5) (among 16 8 n (r .low) (omega (arith, refusal-small t n p e .high)))
     go (inr l) = Memᴰ·append-right (upFrom 16 8) (among 32 5 n l (omega (arith, r .high)))
 
 -- ---- each of them
@@ -119,7 +122,7 @@ all-given (n ∷ ns) cs w e = (
 pub exact-numbers : ExactNumbers
 unfolding outputOf
 exact-numbers = record {
-  only = λ t g limit buffer. call-cases (λ (o : RunOutput). List·Memᴰ (o .result .number) runNumbers) t g limit buffer refusing
+  only = λ t g limit buffer. call-cases (λ (o : RunOutput). List·Memᴰ (o .result .number) runNumbers) t g limit buffer (refusing t)
       (λ k. ending _ (run-ends (tableOf t) limit (start (goalOf g)) .number));
   each = every-mem GivenBy runNumbers
       (all-given runNumbers cases (holds (allAgree cases) workedRuns) (holds (allGiven runNumbers cases) givenNumbers));

@@ -37,15 +37,15 @@ pub record Runs (t g : List ℕ) (limit : ℕ) (buffer : List ℕ) : Type 0 wher
   pub limited : limit ≤ greatestLimit
   pub roomy : leastAnswer ≤ length buffer
 
--- what is known of a refusal: one of 16 to 23 or of 32 to 36
-pub record Refusal (n p : ℕ) : Type 0 where
+-- what is known of a refusal: it is the table's, or one of 32 to 36
+pub record Refusal (t : List ℕ) (n p : ℕ) : Type 0 where
   pub low : 16 ≤ n
   pub high : n ≤ 36
-  pub sort : (n ≤ 23) ⊎ (32 ≤ n)
+  pub sort : (readOf t .verdict ≡ Refused n p) ⊎ (32 ≤ n)
   pub near : p ≤ 23681
 
 module _ (P : RunOutput → Type 0) (t g : List ℕ) (limit : ℕ) (buffer : List ℕ)
-    (refuses : (n p : ℕ) → Refusal n p → P (refusedRun n p buffer))
+    (refuses : (n p : ℕ) → Refusal t n p → P (refusedRun n p buffer))
     (goes : Runs t g limit buffer → P (outputOf (run (tableOf t) limit (start (goalOf g))) buffer)) where
   module _ (a : readOf t .verdict ≡ Good) where
     module _ (b : goalVerdict t (readOf t .symbols) g ≡ Good) where
@@ -67,7 +67,7 @@ module _ (P : RunOutput → Type 0) (t g : List ℕ) (limit : ℕ) (buffer : Lis
   table-case Good q = goal-case q (goalVerdict t (readOf t .symbols) g) refl
   table-case (Refused n p) q =
       let r : TableRefusal n p = refusal-small t n p q in
-      refuses n p (record { low = r .low; high = omega (arith, r .high); sort = inl (r .high); near = r .near })
+      refuses n p (record { low = r .low; high = omega (arith, r .high); sort = inl q; near = r .near })
 
   -- what holds of each refusal, and of the definition's run, holds of the call
   pub call-cases : P (runOf t g limit buffer)
