@@ -76,10 +76,13 @@ pub record Early (s : Scan) : Type 0 where
   pub noRule : s .rules ≡ 0
   pub behindSymbols : s .at ≡ 2 * s .symbols
 
--- n body items from p on, behind which q is
+-- n body items from p on, each with P, behind which q is
+abbrev pub ItemsBy : List ℕ → (ℕ → Type 0) → ℕ → ℕ → ℕ → Type 0
+ItemsBy t P p zero q = p ≡ q
+ItemsBy t P p (suc n) q = P p × ItemsBy t P (behindItem t p) n q
+
 abbrev pub ItemsTo : List ℕ → ℕ → ℕ → ℕ → ℕ → Type 0
-ItemsTo t symbols p zero q = p ≡ q
-ItemsTo t symbols p (suc n) q = ItemIn t symbols p × ItemsTo t symbols (behindItem t p) n q
+ItemsTo t symbols p n q = ItemsBy t (ItemIn t symbols) p n q
 
 -- in a rule: it is good so far, but that it may have no head yet. No guard stands before stage 4 and no item before stage 5
 pub record InRule (t : List ℕ) (s : Scan) : Type 0 where
@@ -122,13 +125,14 @@ first-sane t = record {
 
 -- ---- body items, one after the other
 
-items-none : (t : List ℕ) (symbols p n q : ℕ) → n ≡ 0 → q ≡ p → ItemsTo t symbols p n q
-items-none t symbols p zero q e d = sym d
-items-none t symbols p (suc n) q e d = absurd (omega arith)
+module _ (t : List ℕ) (P : ℕ → Type 0) where
+  pub items-none : (p n q : ℕ) → n ≡ 0 → q ≡ p → ItemsBy t P p n q
+  items-none p zero q e d = sym d
+  items-none p (suc n) q e d = absurd (omega arith)
 
-items-snoc : (t : List ℕ) (symbols p n q : ℕ) → ItemsTo t symbols p n q → ItemIn t symbols q → ItemsTo t symbols p (suc n) (behindItem t q)
-items-snoc t symbols p zero q e i = rw e (i, refl)
-items-snoc t symbols p (suc n) q w i = (w .0, items-snoc t symbols (behindItem t p) n q (w .1) i)
+  pub items-snoc : (p n q : ℕ) → ItemsBy t P p n q → P q → ItemsBy t P p (suc n) (behindItem t q)
+  items-snoc p zero q e i = rw e (i, refl)
+  items-snoc p (suc n) q w i = (w .0, items-snoc (behindItem t p) n q (w .1) i)
 
 items-in : (t : List ℕ) (symbols p n q : ℕ) → q ≤ length t → ItemsTo t symbols p n q → ItemsIn t symbols p n
 items-in t symbols p zero q h e = rw e h
@@ -261,46 +265,51 @@ fact-declared : (t : List ℕ) (at symbols : ℕ) → bodyFactBad t at symbols �
 unfolding bodyFactBad
 fact-declared t at symbols e = leb-false symbols (getD t (at + 1) 0) (or-first (leb symbols (getD t (at + 1) 0)) _ e)
 
--- a kind says whether its byte is that of a body fact
-abbrev FactByte : ℕ → Kind → Type 0
-FactByte b NextSymbol = Unit {0}
-FactByte b NextRule = Unit {0}
-FactByte b KeptHead = Unit {0}
-FactByte b RemovedHead = Unit {0}
-FactByte b Comparison = Unit {0}
-FactByte b BodyFact = eqb b 6 ≡ true
-FactByte b BodyFail = eqb b 6 ≡ false
-FactByte b EndOfTable = Unit {0}
-FactByte b Unknown = Unit {0}
+-- the byte of a kind
+abbrev pub KindByte : ℕ → Kind → Type 0
+KindByte b NextSymbol = b ≡ 1
+KindByte b NextRule = b ≡ 2
+KindByte b KeptHead = b ≡ 3
+KindByte b RemovedHead = b ≡ 4
+KindByte b Comparison = b ≡ 5
+KindByte b BodyFact = b ≡ 6
+KindByte b BodyFail = b ≡ 7
+KindByte b EndOfTable = b ≡ 8
+KindByte b Unknown = Unit {0}
 
 either : (P : Kind → Type 0) (c : Bool) (x y : Kind) → (c ≡ true → P x) → (c ≡ false → P y) → P (cond c x y)
 either P true x y p q = p refl
 either P false x y p q = q refl
 
-fact-byte : (b : ℕ) → FactByte b (kindOf b)
+kind-byte : (b : ℕ) → KindByte b (kindOf b)
 unfolding kindOf
-fact-byte b =
-    either (FactByte b) (eqb b 1) NextSymbol _ (λ e. tt) (λ e1.
-    either (FactByte b) (eqb b 2) NextRule _ (λ e. tt) (λ e2.
-    either (FactByte b) (eqb b 3) KeptHead _ (λ e. tt) (λ e3.
-    either (FactByte b) (eqb b 4) RemovedHead _ (λ e. tt) (λ e4.
-    either (FactByte b) (eqb b 5) Comparison _ (λ e. tt) (λ e5.
-    either (FactByte b) (eqb b 6) BodyFact _ (λ e. e) (λ e6.
-    either (FactByte b) (eqb b 7) BodyFail _ (λ e. e6) (λ e7.
-    either (FactByte b) (eqb b 8) EndOfTable Unknown (λ e. tt) (λ e. tt))))))))
+kind-byte b =
+    either (KindByte b) (eqb b 1) NextSymbol _ (eqb-true b 1) (λ e1.
+    either (KindByte b) (eqb b 2) NextRule _ (eqb-true b 2) (λ e2.
+    either (KindByte b) (eqb b 3) KeptHead _ (eqb-true b 3) (λ e3.
+    either (KindByte b) (eqb b 4) RemovedHead _ (eqb-true b 4) (λ e4.
+    either (KindByte b) (eqb b 5) Comparison _ (eqb-true b 5) (λ e5.
+    either (KindByte b) (eqb b 6) BodyFact _ (eqb-true b 6) (λ e6.
+    either (KindByte b) (eqb b 7) BodyFail _ (eqb-true b 7) (λ e7.
+    either (KindByte b) (eqb b 8) EndOfTable Unknown (eqb-true b 8) (λ e. tt))))))))
 
-is-fact : (t : List ℕ) (p : ℕ) (b : Bool) → eqb (getD t p 0) 6 ≡ b → isFact t p ≡ b
+pub six-fact : (t : List ℕ) (p : ℕ) → getD t p 0 ≡ 6 → isFact t p ≡ true
 unfolding isFact
-is-fact t p b e = e
+six-fact t p e = rw e
 
--- all tests of a record of kind k that tell of a good table
-record Passed (t : List ℕ) (s : Scan) (k : Kind) : Type 0 where
-  byte : FactByte (getD t (s .at) 0) k
-  lies : s .at + sizeOf k ≤ length t
-  ordered : outOfOrder k (s .stage) ≡ false
-  headed : headless k (s .stage) ≡ false
-  few : tooMany k s ≡ false
-  fields : badField t s k ≡ false
+pub seven-fail : (t : List ℕ) (p : ℕ) → getD t p 0 ≡ 7 → isFact t p ≡ false
+unfolding isFact
+seven-fail t p e = rw e
+
+-- all that the tests of a good record of kind k tell
+pub record Passed (t : List ℕ) (s : Scan) (k : Kind) : Type 0 where
+  pub byte : KindByte (getD t (s .at) 0) k
+  pub lies : s .at + sizeOf k ≤ length t
+  pub ordered : outOfOrder k (s .stage) ≡ false
+  pub headed : headless k (s .stage) ≡ false
+  pub few : tooMany k s ≡ false
+  pub fields : badField t s k ≡ false
+  pub usual : strange t s k ≡ false
 
 -- the heads so far and one more, which stands behind them, are declared
 one-more : (t : List ℕ) (r : RuleShape) (at symbols : ℕ) → ((i : ℕ) → i < r .heads → getD t (headsStart r + 22 * i + 1) 0 < symbols)
@@ -415,7 +424,7 @@ module _ (t : List ℕ) (s : Scan) (shapes : List RuleShape) (h : Sane t s shape
         atNear = omega arith;
         partsIn = omega arith;
         headsDeclared = λ i e. one-more t (s .shape) (s .at) (s .symbols) (r .headsDeclared) (omega arith) declared i e;
-        items = items-none t (s .symbols) _ (s .shape .items) _ noItem (omega arith);
+        items = items-none t (ItemIn t (s .symbols)) _ (s .shape .items) _ noItem (omega arith);
       }
 
   guard-in : 2 ≤ s .stage → s .stage ≤ 4 → s .shape .guards < 4 → s .at + 24 ≤ length t → InRule t (withPart s 24 4 (withGuard (s .shape)))
@@ -438,7 +447,7 @@ module _ (t : List ℕ) (s : Scan) (shapes : List RuleShape) (h : Sane t s shape
         atNear = omega arith;
         partsIn = omega arith;
         headsDeclared = r .headsDeclared;
-        items = items-none t (s .symbols) _ (s .shape .items) _ noItem (omega arith);
+        items = items-none t (ItemIn t (s .symbols)) _ (s .shape .items) _ noItem (omega arith);
       }
 
   -- a body item of either kind
@@ -462,11 +471,11 @@ module _ (t : List ℕ) (s : Scan) (shapes : List RuleShape) (h : Sane t s shape
         atNear = omega (arith, r .atNear);
         partsIn = r .partsIn;
         headsDeclared = r .headsDeclared;
-        items = rw (add-one (s .shape .items), ← e) (items-snoc t (s .symbols) (itemsStart (s .shape)) (s .shape .items) (s .at) (r .items) i);
+        items = rw (add-one (s .shape .items), ← e) (items-snoc t (ItemIn t (s .symbols)) (itemsStart (s .shape)) (s .shape .items) (s .at) (r .items) i);
       }
 
   -- a part behind the heads: the rule has one
-  past-heads : (k : Kind) → 1 ≤ earliestOf k → outOfOrder k (s .stage) ≡ false → eqb (s .stage) 1 ≡ false → 2 ≤ s .stage
+  pub past-heads : (k : Kind) → 1 ≤ earliestOf k → outOfOrder k (s .stage) ≡ false → eqb (s .stage) 1 ≡ false → 2 ≤ s .stage
   past-heads k l o e = two-of (s .stage) (omega (arith, not-early k (s .stage) o)) (eqb-false (s .stage) 1 e)
 
   fact-sane : Passed t s BodyFact → Sane t (withPart s 46 5 (withItem (s .shape))) (noted shapes (withPart s 46 5 (withItem (s .shape))))
@@ -474,14 +483,14 @@ module _ (t : List ℕ) (s : Scan) (shapes : List RuleShape) (h : Sane t s shape
   fact-sane q =
       let two : 2 ≤ s .stage = past-heads BodyFact (omega arith) (q .ordered) (q .headed) in
       let declared : getD t (s .at + 1) 0 < s .symbols = fact-declared t (s .at) (s .symbols) (q .fields) in
-      let to : behindItem t (s .at) ≡ s .at + 46 = behind-fact t (s .at) (is-fact t (s .at) true (q .byte)) in
+      let to : behindItem t (s .at) ≡ s .at + 46 = behind-fact t (s .at) (six-fact t (s .at) (q .byte)) in
       part-sane 46 5 (withItem (s .shape)) (omega arith) (omega arith) (q .lies)
       (item-in 46 two (leb-false 4 (s .shape .items) (q .few)) (omega arith) to (q .lies) (record { lies = rw to (q .lies); declared = λ e. declared }))
 
   fail-sane : Passed t s BodyFail → Sane t (withPart s 1 5 (withItem (s .shape))) (noted shapes (withPart s 1 5 (withItem (s .shape))))
   fail-sane q =
       let two : 2 ≤ s .stage = past-heads BodyFail (omega arith) (q .ordered) (q .headed) in
-      let none : isFact t (s .at) ≡ false = is-fact t (s .at) false (q .byte) in
+      let none : isFact t (s .at) ≡ false = seven-fail t (s .at) (q .byte) in
       let to : behindItem t (s .at) ≡ s .at + 1 = behind-fail t (s .at) none in
       part-sane 1 5 (withItem (s .shape)) (omega arith) (omega arith) (q .lies)
       (item-in 1 two (leb-false 4 (s .shape .items) (q .few)) (omega arith) to (q .lies)
@@ -522,39 +531,47 @@ module _ (t : List ℕ) (s : Scan) (shapes : List RuleShape) (h : Sane t s shape
   behind-is EndOfTable q = (refl, eqb-false (s .stage) 1 (q .headed))
   behind-is Unknown q = refusal-at t s shapes h 16 (s .at) (omega arith) (omega arith) (omega arith)
 
-  stopped : (b : Bool) (n p : ℕ) (y : RecordStep) → TableRefusal n p → (b ≡ false → StepIs t s shapes y) → StepIs t s shapes (cond b (Stop n p) y)
-  stopped true n p y r q = r
-  stopped false n p y r q = q refl
-
   here : (n : ℕ) → 16 ≤ n → n ≤ 23 → TableRefusal n (s .at)
   here n l g = refusal-at t s shapes h n (s .at) l g (omega arith)
 
-  tested-is : (k : Kind) → FactByte (getD t (s .at) 0) k → StepIs t s shapes (testedOf t s k)
-  unfolding testedOf orderedOf fieldsOf
-  tested-is k byte =
-      stopped (eqb (sizeOf k) 0) 16 (s .at) _ (here 16 (omega arith) (omega arith)) (λ known.
-      stopped (ltb (length t) (s .at + sizeOf k)) 17 (s .at) _ (here 17 (omega arith) (omega arith)) (λ lies.
-      stopped (outOfOrder k (s .stage)) 18 (s .at) _ (here 18 (omega arith) (omega arith)) (λ ordered.
-      stopped (headless k (s .stage)) 21 (s .at) _ (here 21 (omega arith) (omega arith)) (λ headed.
-      stopped (tooMany k s) 19 (s .at) _ (here 19 (omega arith) (omega arith)) (λ few.
-      stopped (badField t s k) 20 (s .at) _ (here 20 (omega arith) (omega arith)) (λ fields.
-      stopped (strange t s k) 22 (s .at) _ (here 22 (omega arith) (omega arith)) (λ usual.
-      behind-is k (record {
-        byte = byte;
-        lies = ltb-false (length t) (s .at + sizeOf k) lies;
-        ordered = ordered;
-        headed = headed;
-        few = few;
-        fields = fields;
-      }))))))))
+  -- what holds of each refusal of a table, and of what comes behind a record that passes all its tests, holds of what a record comes to
+  module _ (P : RecordStep → Type 0) (refused : (n p : ℕ) → TableRefusal n p → P (Stop n p)) (passed : (k : Kind) → Passed t s k → P (behind s k)) where
+    stopped : (b : Bool) (n p : ℕ) (y : RecordStep) → TableRefusal n p → (b ≡ false → P y) → P (cond b (Stop n p) y)
+    stopped true n p y r q = refused n p r
+    stopped false n p y r q = q refl
+
+    tested-by : (k : Kind) → KindByte (getD t (s .at) 0) k → P (testedOf t s k)
+    unfolding testedOf orderedOf fieldsOf
+    tested-by k byte =
+        stopped (eqb (sizeOf k) 0) 16 (s .at) _ (here 16 (omega arith) (omega arith)) (λ known.
+        stopped (ltb (length t) (s .at + sizeOf k)) 17 (s .at) _ (here 17 (omega arith) (omega arith)) (λ lies.
+        stopped (outOfOrder k (s .stage)) 18 (s .at) _ (here 18 (omega arith) (omega arith)) (λ ordered.
+        stopped (headless k (s .stage)) 21 (s .at) _ (here 21 (omega arith) (omega arith)) (λ headed.
+        stopped (tooMany k s) 19 (s .at) _ (here 19 (omega arith) (omega arith)) (λ few.
+        stopped (badField t s k) 20 (s .at) _ (here 20 (omega arith) (omega arith)) (λ fields.
+        stopped (strange t s k) 22 (s .at) _ (here 22 (omega arith) (omega arith)) (λ usual.
+        passed k (record {
+          byte = byte;
+          lies = ltb-false (length t) (s .at + sizeOf k) lies;
+          ordered = ordered;
+          headed = headed;
+          few = few;
+          fields = fields;
+          usual = usual;
+        }))))))))
+
+    pub record-by : P (recordOf t s)
+    unfolding recordOf
+    record-by = go (leb (length t) (s .at)) refl
+      where
+        go : (b : Bool) → leb (length t) (s .at) ≡ b → P (cond b (Stop 17 (length t)) (testedOf t s (kindOf (getD t (s .at) 0))))
+        go true e =
+            refused 17 (length t)
+            (refusal-at t s shapes h 17 (length t) (omega arith) (omega arith) (omega (arith, leb-true (length t) (s .at) e)))
+        go false e = tested-by (kindOf (getD t (s .at) 0)) (kind-byte (getD t (s .at) 0))
 
   pub record-is : StepIs t s shapes (recordOf t s)
-  unfolding recordOf
-  record-is = go (leb (length t) (s .at)) refl
-    where
-      go : (b : Bool) → leb (length t) (s .at) ≡ b → StepIs t s shapes (cond b (Stop 17 (length t)) (testedOf t s (kindOf (getD t (s .at) 0))))
-      go true e = refusal-at t s shapes h 17 (length t) (omega arith) (omega arith) (omega (arith, leb-true (length t) (s .at) e))
-      go false e = tested-is (kindOf (getD t (s .at) 0)) (fact-byte (getD t (s .at) 0))
+  record-is = record-by (StepIs t s shapes) (λ n p r. r) behind-is
 
 -- a good record keeps the invariant, and goes on
 pub next-sane : (t : List ℕ) (s s′ : Scan) (shapes : List RuleShape) → Sane t s shapes → recordOf t s ≡ Next s′ → Sane t s′ (noted shapes s′)

@@ -4,6 +4,7 @@ pub mod Matrix
 pub mod Every
 pub mod Lists
 pub mod Good
+pub mod Whole
 pub mod Decoded
 pub mod Longest
 pub mod Loop
