@@ -264,15 +264,19 @@ module _ (t : List ℕ) (g : GoodTable t) where
   pub rules-few : length (tableOf t .rules) ≤ mostRules
   rules-few = omega (arith, rules-length t (g .shapes) (g .fewRules), g .fewRules)
 
+  pub every-shape : every (GoodRule t (readOf t .symbols)) (take (readOf t .rules) (readOf t .shapes))
+  every-shape =
+      every-by (GoodRule t (readOf t .symbols)) (take (readOf t .rules) (readOf t .shapes)) noShape
+      (λ i l.
+      let m : i < readOf t .rules = omega (arith, taken t (g .shapes) (g .fewRules)) in
+      rw (getD-take (readOf t .rules) (readOf t .shapes) i noShape m) (g .each i m))
+
   -- what holds of each good rule holds of each rule of the table
   pub every-rule : (P : Rule → Type 0) → ((r : RuleShape) → GoodRule t (readOf t .symbols) r → P (ruleOf t r)) → every P (tableOf t .rules)
   every-rule P f =
       rw (table-rules t)
       (every-map P (ruleOf t) (take (readOf t .rules) (readOf t .shapes))
-      (every-by (λ (r : RuleShape). P (ruleOf t r)) (take (readOf t .rules) (readOf t .shapes)) noShape
-      (λ i l.
-      let m : i < readOf t .rules = omega (arith, taken t (g .shapes) (g .fewRules)) in
-      rw (getD-take (readOf t .rules) (readOf t .shapes) i noShape m) (f (getD (readOf t .shapes) i noShape) (g .each i m)))))
+      (every-weaken (GoodRule t (readOf t .symbols)) (λ (r : RuleShape). P (ruleOf t r)) f (take (readOf t .rules) (readOf t .shapes)) every-shape))
 
   pub every-head-declared : every (λ (r : Rule). every (λ (h : Head). h .symbol .0 < tableOf t .symbols) (heads r)) (tableOf t .rules)
   every-head-declared =

@@ -12,7 +12,7 @@ use native.Mathlib.Nat.{eq-or-lt-of-le, eq-zero-or-pos, div-add-mod}
 use lib.Dec.{ltb, leb, eqb}
 use lib.ListN.{length, getD, set, length-set, length-replicate}
 use lib.Seq.{getD-set-same, getD-set-other}
-use borrow.Author.Tests.{ltb-false, leb-true, leb-false, eqb-true, eqb-false, ne-eqb}
+use borrow.Author.Tests.{ltb-false, leb-true, leb-false, le-leb, eqb-true, eqb-false, ne-eqb, not-false}
 use Rattle.model.specs.declared.Kind.{Kind}
 use Rattle.model.specs.declared.Kind.the-variants.{NextSymbol, NextRule, KeptHead, RemovedHead, Comparison, BodyFact, BodyFail, EndOfTable, Unknown}
 use Rattle.model.specs.declared.RuleShape.{RuleShape}
@@ -24,12 +24,13 @@ use Rattle.model.specs.declared.Verdict.{Verdict}
 use Rattle.model.specs.declared.Verdict.the-variants.{Good, Refused}
 use Rattle.model.specs.Limits.{mostSymbols, mostRules, mostHeads, mostGuards, mostItems, mostGoalFacts}
 use Rattle.model.specs.Records.{kindOf, sizeOf, earliestOf, latestOf, outOfOrder, headless, tooMany}
-use Rattle.model.specs.Fields.{headBad, bodyFactBad, badField}
+use Rattle.model.specs.Fields.{arityAt, headBad, bodyFactBad, badField}
 use Rattle.model.specs.Variables.{strange}
 use Rattle.model.specs.Reading.{noShape, noShapes, firstScan, reading, withPart, withRule, withSymbol, withKept, withRemoved, withGuard}
 use Rattle.model.specs.Reading.{withItem, behind, fieldsOf, orderedOf, testedOf, recordOf, noted, ended, goOn, readFrom, readOf}
 use Rattle.model.specs.Table.{isFact, behindItem, headsStart, itemsStart}
-use Rattle.model.specs.Goal.{goalFactBad, factsVerdict, goalVerdict}
+use Rattle.model.specs.Goal.{laterBad, laterPlacesBad, goalFactBad, factsVerdict, goalVerdict}
+use Rattle.wire.specs.Wire.{u32At}
 
 -- a body item lies in the table, and the symbol of a body fact is declared
 pub record ItemIn (t : List ℕ) (symbols p : ℕ) : Type 0 where
@@ -628,6 +629,14 @@ refusal-small t n p e = subst (VerdictIs t (readOf t)) e (table-is t)
 
 -- ---- a goal
 
+-- what holds of each of the four places holds of every place
+pub below-four : (P : ℕ → Type 0) → P 0 → P 1 → P 2 → P 3 → (k : ℕ) → k < 4 → P k
+below-four P a b c d zero l = a
+below-four P a b c d (suc zero) l = b
+below-four P a b c d (suc (suc zero)) l = c
+below-four P a b c d (suc (suc (suc zero))) l = d
+below-four P a b c d (suc (suc (suc (suc k)))) l = absurd (omega arith)
+
 pub record GoalRefusal (n p : ℕ) : Type 0 where
   pub low : 32 ≤ n
   pub high : n ≤ 34
@@ -636,70 +645,111 @@ pub record GoalRefusal (n p : ℕ) : Type 0 where
 pub record GoodGoal (symbols : ℕ) (g : List ℕ) : Type 0 where
   pub whole : length g ≡ 18 * (length g / 18)
   pub few : length g / 18 ≤ mostGoalFacts
+  pub kinds : (i : ℕ) → i < length g / 18 → getD g (18 * i) 0 ≡ 16
   pub declared : (i : ℕ) → i < length g / 18 → getD g (18 * i + 1) 0 < symbols
 
-abbrev pub GoalIs : ℕ → List ℕ → Verdict → Type 0
-GoalIs symbols g Good = GoodGoal symbols g
-GoalIs symbols g (Refused n p) = GoalRefusal n p
+-- and each later place of a fact, from the arity of its symbol on, is zero: every fact passed all its tests
+pub record WholeGoal (t : List ℕ) (symbols : ℕ) (g : List ℕ) : Type 0 where
+  pub good : GoodGoal symbols g
+  pub facts : (i : ℕ) → i < length g / 18 → goalFactBad t symbols g (18 * i) ≡ false
+  pub later : (i : ℕ) → i < length g / 18 → (k : ℕ) → k < 4 → arityAt t (getD g (18 * i + 1) 0) ≤ k → u32At g (18 * i + 2 + 4 * k) ≡ 0
 
--- the same of the n facts from fact k on
-abbrev FactsAre : ℕ → List ℕ → ℕ → ℕ → Verdict → Type 0
-FactsAre symbols g k n Good = (i : ℕ) → k ≤ i → i < k + n → getD g (18 * i + 1) 0 < symbols
-FactsAre symbols g k n (Refused m p) = GoalRefusal m p
+later-test : (arity place value : ℕ) → laterBad arity place value ≡ false → arity ≤ place → value ≡ 0
+unfolding laterBad
+later-test arity place value e l = eqb-true value 0 (not-false (eqb value 0) (rw (le-leb arity place l) at e))
+
+later-zero : (arity : ℕ) (g : List ℕ) (p : ℕ) → laterPlacesBad arity g p ≡ false → (k : ℕ) → k < 4 → arity ≤ k → u32At g (p + 4 * k) ≡ 0
+unfolding laterPlacesBad
+later-zero arity g p e =
+    let a = or-second (laterBad arity 0 (u32At g p)) _ e in
+    let b = or-second (laterBad arity 1 (u32At g (p + 4))) _ a in
+    let z : p + 4 * 0 ≡ p = omega arith in
+    below-four (λ (k : ℕ). arity ≤ k → u32At g (p + 4 * k) ≡ 0)
+    (rw z (later-test arity 0 (u32At g p) (or-first (laterBad arity 0 (u32At g p)) _ e)))
+    (later-test arity 1 (u32At g (p + 4)) (or-first (laterBad arity 1 (u32At g (p + 4))) _ a))
+    (later-test arity 2 (u32At g (p + 8)) (or-first (laterBad arity 2 (u32At g (p + 8))) _ b))
+    (later-test arity 3 (u32At g (p + 12)) (or-second (laterBad arity 2 (u32At g (p + 8))) _ b))
+
+abbrev pub GoalIs : List ℕ → ℕ → List ℕ → Verdict → Type 0
+GoalIs t symbols g Good = WholeGoal t symbols g
+GoalIs t symbols g (Refused n p) = GoalRefusal n p
 
 module _ (t : List ℕ) (symbols : ℕ) (g : List ℕ) where
+  -- the same of the n facts from fact k on
+  abbrev FactsAre : ℕ → ℕ → Verdict → Type 0
+  FactsAre k n Good = (i : ℕ) → k ≤ i → i < k + n → goalFactBad t symbols g (18 * i) ≡ false
+  FactsAre k n (Refused m p) = GoalRefusal m p
+
+  goal-fact-kind : (p : ℕ) → goalFactBad t symbols g p ≡ false → getD g p 0 ≡ 16
+  unfolding goalFactBad
+  goal-fact-kind p e = eqb-true (getD g p 0) 16 (not-false (eqb (getD g p 0) 16) (or-first (not (eqb (getD g p 0) 16)) _ e))
+
   goal-fact-declared : (p : ℕ) → goalFactBad t symbols g p ≡ false → getD g (p + 1) 0 < symbols
   unfolding goalFactBad
   goal-fact-declared p e =
       leb-false symbols (getD g (p + 1) 0) (or-first (leb symbols (getD g (p + 1) 0)) _ (or-second (not (eqb (getD g p 0) 16)) _ e))
 
-  one-fact : (k n : ℕ) → goalFactBad t symbols g (18 * k) ≡ false → (v : Verdict) → FactsAre symbols g (k + 1) n v → FactsAre symbols g k (suc n) v
+  goal-fact-later : (p : ℕ) → goalFactBad t symbols g p ≡ false → (k : ℕ) → k < 4 → arityAt t (getD g (p + 1) 0) ≤ k → u32At g (p + 2 + 4 * k) ≡ 0
+  unfolding goalFactBad
+  goal-fact-later p e =
+      later-zero (arityAt t (getD g (p + 1) 0)) g (p + 2)
+      (or-second (leb symbols (getD g (p + 1) 0)) _ (or-second (not (eqb (getD g p 0) 16)) _ e))
+
+  one-fact : (k n : ℕ) → goalFactBad t symbols g (18 * k) ≡ false → (v : Verdict) → FactsAre (k + 1) n v → FactsAre k (suc n) v
   one-fact k n e Good u = λ i l m. first-or-later i m (eq-or-lt-of-le l)
     where
-      first-or-later : (i : ℕ) → i < k + suc n → (k ≡ i) ⊎ (k < i) → getD g (18 * i + 1) 0 < symbols
-      first-or-later i m (inl d) = rw (← d) (goal-fact-declared (18 * k) e)
+      first-or-later : (i : ℕ) → i < k + suc n → (k ≡ i) ⊎ (k < i) → goalFactBad t symbols g (18 * i) ≡ false
+      first-or-later i m (inl d) = rw (← d) e
       first-or-later i m (inr d) = u i (omega arith) (omega arith)
   one-fact k n e (Refused a b) u = u
 
-  facts-are : (k n : ℕ) → k + n ≤ mostGoalFacts → FactsAre symbols g k n (factsVerdict t symbols g k n)
+  facts-are : (k n : ℕ) → k + n ≤ mostGoalFacts → FactsAre k n (factsVerdict t symbols g k n)
   unfolding factsVerdict
   facts-are k zero l = λ i a b. absurd (omega arith)
   facts-are k (suc n) l = go (goalFactBad t symbols g (18 * k)) refl (facts-are (k + 1) n (omega arith))
     where
-      go : (b : Bool) → goalFactBad t symbols g (18 * k) ≡ b → FactsAre symbols g (k + 1) n (factsVerdict t symbols g (k + 1) n)
-          → FactsAre symbols g k (suc n) (elim b [ true ↦ Refused 33 k | false ↦ factsVerdict t symbols g (k + 1) n ])
+      go : (b : Bool) → goalFactBad t symbols g (18 * k) ≡ b → FactsAre (k + 1) n (factsVerdict t symbols g (k + 1) n)
+          → FactsAre k (suc n) (elim b [ true ↦ Refused 33 k | false ↦ factsVerdict t symbols g (k + 1) n ])
       go true e u = record { low = omega arith; high = omega arith; near = omega arith }
       go false e u = one-fact k n e (factsVerdict t symbols g (k + 1) n) u
 
-  counted : length g % 18 ≡ 0 → length g / 18 ≤ mostGoalFacts → (v : Verdict) → FactsAre symbols g 0 (length g / 18) v → GoalIs symbols g v
+  counted : length g % 18 ≡ 0 → length g / 18 ≤ mostGoalFacts → (v : Verdict) → FactsAre 0 (length g / 18) v → GoalIs t symbols g v
   counted e l Good u = record {
-    whole = omega (arith, div-add-mod (length g) 18);
-    few = l;
-    declared = λ i m. u i (omega arith) (omega arith);
+    good = record {
+      whole = omega (arith, div-add-mod (length g) 18);
+      few = l;
+      kinds = λ i m. goal-fact-kind (18 * i) (u i (omega arith) (omega arith));
+      declared = λ i m. goal-fact-declared (18 * i) (u i (omega arith) (omega arith));
+    };
+    facts = λ i m. u i (omega arith) (omega arith);
+    later = λ i m. goal-fact-later (18 * i) (u i (omega arith) (omega arith));
   }
   counted e l (Refused a b) u = u
 
-  pub goal-is : GoalIs symbols g (goalVerdict t symbols g)
+  pub goal-is : GoalIs t symbols g (goalVerdict t symbols g)
   unfolding goalVerdict
   goal-is = go (eqb (length g % 18) 0) refl
     where
       go′ : length g % 18 ≡ 0 → (b : Bool) → leb (length g / 18) mostGoalFacts ≡ b
-          → GoalIs symbols g (cond b (factsVerdict t symbols g 0 (length g / 18)) (Refused 34 0))
+          → GoalIs t symbols g (cond b (factsVerdict t symbols g 0 (length g / 18)) (Refused 34 0))
       go′ e true q =
           let l : length g / 18 ≤ 64 = leb-true (length g / 18) 64 q in
           counted e l (factsVerdict t symbols g 0 (length g / 18)) (facts-are 0 (length g / 18) (omega arith))
       go′ e false q = record { low = omega arith; high = omega arith; near = omega arith }
 
       go : (b : Bool) → eqb (length g % 18) 0 ≡ b
-          → GoalIs symbols g (cond b (cond (leb (length g / 18) mostGoalFacts) (factsVerdict t symbols g 0 (length g / 18)) (Refused 34 0)) (Refused 32 0))
+          → GoalIs t symbols g (cond b (cond (leb (length g / 18) mostGoalFacts) (factsVerdict t symbols g 0 (length g / 18)) (Refused 34 0)) (Refused 32 0))
       go true e = go′ (eqb-true (length g % 18) 0 e) (leb (length g / 18) mostGoalFacts) refl
       go false e = record { low = omega arith; high = omega arith; near = omega arith }
 
+  pub whole-goal : goalVerdict t symbols g ≡ Good → WholeGoal t symbols g
+  whole-goal e = subst (GoalIs t symbols g) e goal-is
+
   pub good-goal : goalVerdict t symbols g ≡ Good → GoodGoal symbols g
-  good-goal e = subst (GoalIs symbols g) e goal-is
+  good-goal e = whole-goal e .good
 
   pub goal-places : (n p : ℕ) → goalVerdict t symbols g ≡ Refused n p → GoalRefusal n p
-  goal-places n p e = subst (GoalIs symbols g) e goal-is
+  goal-places n p e = subst (GoalIs t symbols g) e goal-is
 
 -- ---- "The longest good table has 23,681 bytes."
 

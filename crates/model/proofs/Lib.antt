@@ -6,6 +6,7 @@ pub mod Lists
 pub mod Good
 pub mod Whole
 pub mod Decoded
+pub mod Parts
 pub mod Longest
 pub mod Loop
 pub mod Sound

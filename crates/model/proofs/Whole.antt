@@ -2,7 +2,7 @@
 -- behind the other, and the end record is the last byte. Reading carries it along beside Sane (Good): the symbols so far, the finished rules as a
 -- chain up to the start of the rule that is being read, and that rule up to where the scan stands.
 use Prim.Native.Nat.{ℕ, zero, suc, _+_, _-_, _*_, _≤_, _<_}
-use mathlib.Core.Path.{_≡_, refl, sym, ap, _∙_, subst}
+use mathlib.Core.Path.{_≡_, refl, sym, ap, _∙_}
 use mathlib.Core.Logic.{_⊎_, inl, inr}
 use mathlib.Core.Bool.{Bool, true, false, cond}
 use mathlib.Core.List.{List, [], _∷_, _++_}
@@ -20,15 +20,14 @@ use Rattle.model.specs.declared.Scan.{Scan}
 use Rattle.model.specs.declared.RecordStep.{RecordStep}
 use Rattle.model.specs.declared.RecordStep.the-variants.{Next, Stop, Done}
 use Rattle.model.specs.declared.Reading.{Reading}
-use Rattle.model.specs.declared.Verdict.{Verdict}
 use Rattle.model.specs.declared.Verdict.the-variants.{Good, Refused}
 use Rattle.model.specs.Fields.{headBad, guardBad, bodyFactBad, badField}
 use Rattle.model.specs.Variables.{strangeGuard, strangeFact, strange}
 use Rattle.model.specs.Reading.{noShape, noShapes, firstScan, reading, withPart, withRule, withSymbol, withKept, withRemoved, withGuard}
 use Rattle.model.specs.Reading.{withItem, behind, recordOf, noted, ended, goOn, readFrom, readOf}
 use Rattle.model.specs.Table.{isFact, behindItem, headsStart, guardsStart, itemsStart}
-use Rattle.model.proofs.Good.{Sane, InRule, Early, Passed, ItemsBy, StepIs, items-none, items-snoc, behind-fact, behind-fail, six-fact, seven-fail}
-use Rattle.model.proofs.Good.{noted-some, noted-none, first-sane, past-heads, not-early, not-late, record-by, record-is}
+use Rattle.model.proofs.Good.{Sane, Early, Passed, ItemsBy, StepIs, items-none, items-snoc, behind-fact, behind-fail, six-fact, seven-fail}
+use Rattle.model.proofs.Good.{noted-some, first-sane, past-heads, not-early, not-late, record-by, record-is}
 
 -- a body item: "body fact" or "body fail"; a fact's fields are good, and its variables stand in heads
 pub record ItemWhole (t : List ℕ) (symbols start heads p : ℕ) : Type 0 where
