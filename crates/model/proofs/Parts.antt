@@ -36,6 +36,30 @@ use Rattle.model.proofs.Whole.{ItemWhole, ItemsWhole, GuardWhole, RuleW
 use Rattle.model.proofs.Decoded.{heads-more, heads-length, heads-at, guards-length, guards-at, items-none, items-more, rule-heads}
 use Rattle.model.proofs.Decoded.{rule-guards, rule-body, table-symbols, table-rules, every-shape, goal-length, goal-at}
 
+-- ---- what holds of each expression of a rule: of both sides of each comparison, and of each argument of each body fact
+
+pub record OfGuard (P : Expression → Type 0) (g : Guard) : Type 0 where
+  pub left : P (g .left)
+  pub right : P (g .right)
+
+abbrev pub OfItem : (Expression → Type 0) → BodyItem → Type 0
+OfItem P (bodyFact s es) = every P es
+OfItem P bodyFail = Unit {0}
+
+pub record EachExpression (P : Expression → Type 0) (r : Rule) : Type 0 where
+  pub guards : every (OfGuard P) (r .guards)
+  pub body : every (OfItem P) (r .body)
+
+pub each-weaken : (P Q : Expression → Type 0) → ((e : Expression) → P e → Q e) → (r : Rule) → EachExpression P r → EachExpression Q r
+each-weaken P Q f r u = record {
+  guards = every-weaken (OfGuard P) (OfGuard Q) (λ g v. record { left = f (g .left) (v .left); right = f (g .right) (v .right) }) (r .guards) (u .guards);
+  body = every-weaken (OfItem P) (OfItem Q) item (r .body) (u .body);
+}
+  where
+    item : (i : BodyItem) → OfItem P i → OfItem Q i
+    item (bodyFact s es) v = every-weaken P Q f es v
+    item bodyFail v = tt
+
 -- ---- slots
 
 -- a place that is used: "1 constant; 2 variable, value 0..15"
@@ -67,20 +91,12 @@ pub record ExpressionIn (hs : List Head) (e : Expression) : Type 0 where
   pub left : SlotIn hs (e .left)
   pub right : SlotIn hs (e .right)
 
-pub record GuardIn (hs : List Head) (g : Guard) : Type 0 where
-  pub left : ExpressionIn hs (g .left)
-  pub right : ExpressionIn hs (g .right)
+abbrev pub GuardIn : List Head → Guard → Type 0
+GuardIn hs g = OfGuard (ExpressionIn hs) g
 
-abbrev pub BodyIn : List Head → BodyItem → Type 0
-BodyIn hs (bodyFact s es) = every (ExpressionIn hs) es
-BodyIn hs bodyFail = Unit {0}
-
--- each variable of the guards, and each of the body, stands in a head
+-- each variable of the guards stands in a head
 abbrev pub Covered : Rule → Type 0
 Covered r = every (GuardIn (heads r)) (r .guards)
-
-abbrev pub BodyCovered : Rule → Type 0
-BodyCovered r = every (BodyIn (heads r)) (r .body)
 
 -- ---- the parts of a good rule. `symbols` are declared, and t has their arities
 
@@ -434,16 +450,15 @@ rule-parts t e n =
     (record { eachHead = tt; eachGuard = tt; eachItem = tt })
 
 -- so each variable of a guard or of a body stands in a head
-module _ (t : List ℕ) (symbols : ℕ) (r : Rule) (g : GoodParts t symbols r) where
-  pub guards-covered : Covered r
-  guards-covered = every-weaken (GoodGuard (heads r)) (GuardIn (heads r)) (λ x q. q .bound) (r .guards) (g .eachGuard)
-
-  pub body-covered : BodyCovered r
-  body-covered = every-weaken (GoodItem t symbols (heads r)) (BodyIn (heads r)) item (r .body) (g .eachItem)
-    where
-      item : (i : BodyItem) → GoodItem t symbols (heads r) i → BodyIn (heads r) i
-      item (bodyFact s es) q = q .bound
-      item bodyFail q = tt
+pub variables-stand : (t : List ℕ) (symbols : ℕ) (r : Rule) → GoodParts t symbols r → EachExpression (ExpressionIn (heads r)) r
+variables-stand t symbols r g = record {
+  guards = every-weaken (GoodGuard (heads r)) (GuardIn (heads r)) (λ x q. q .bound) (r .guards) (g .eachGuard);
+  body = every-weaken (GoodItem t symbols (heads r)) (OfItem (ExpressionIn (heads r))) item (r .body) (g .eachItem);
+}
+  where
+    item : (i : BodyItem) → GoodItem t symbols (heads r) i → OfItem (ExpressionIn (heads r)) i
+    item (bodyFact s es) q = q .bound
+    item bodyFail q = tt
 
 -- ---- a goal's facts
 

@@ -4,6 +4,7 @@ pub mod Match
 pub mod Found
 pub mod Occurrence
 pub mod Substitutions
+pub mod Bound
 pub mod Following
 pub mod Steps
 pub mod Runs

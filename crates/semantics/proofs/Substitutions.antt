@@ -16,11 +16,13 @@ use Rattle.model.specs.declared.Binding.{Binding}
 use Rattle.model.specs.declared.HeadPlace.{HeadPlace}
 use Rattle.model.specs.declared.Slot.{Slot}
 use Rattle.model.specs.declared.Slot.the-variants.{Unused, Constant, Variable, Bad}
+use Rattle.model.specs.declared.Expression.{Expression}
 use Rattle.model.specs.Table.{Head, Guard, Rule, Table, heads, ruleAt}
 use Rattle.model.specs.Guards.{unbound, variableValue, slotValue, expressionValue, comparisonValue, guardValue}
 use Rattle.model.specs.Matching.{arguments, matchHead}
 use Rattle.model.proofs.Every.{every, every-weaken}
 use Rattle.model.proofs.Sound.{Distinct, idsOf}
+use Rattle.model.proofs.Parts.{Stands, SlotIn, ExpressionIn, GuardIn, Covered}
 use Rattle.semantics.specs.Instances.{PartOf, SlotIs, SlotsAre, HeadIs, HeadsAre, Matching}
 use Rattle.semantics.specs.Refined.{Enabled}
 use Rattle.semantics.proofs.Match.{Sized, part-refl, part-trans, unbound-part, Extends, Matched, head-later, head-matched, guards-by}
@@ -58,10 +60,6 @@ least-matching store p r i facts η s d m h =
 
 -- ---- a variable that stands in a head has a value
 
--- a head has a place for each of the four arguments of a fact
-abbrev pub Stands : List Head → ℕ → Type 0
-Stands hs v = (h : Head) × List·Memᴰ h hs × List·Memᴰ (Variable v) (take 4 (h .slots))
-
 slots-value : (θ : Binding) (v : ℕ) (ss : List Slot) (zs : List ℤ) → SlotsAre θ ss zs → List·Memᴰ (Variable v) (take (length zs) ss)
     → (z : ℤ) × (variableValue θ v ≡ Number z)
 slots-value θ v [] [] u m = absurd (List·Memᴰ·not-nil m)
@@ -74,7 +72,7 @@ slots-value θ v (s ∷ ss) (z ∷ zs) u m = go (List·Memᴰ·cases-cons m) (λ
     go (inl e) ih = (z, subst (λ (x : Slot). SlotIs θ x z) (sym e) (u .0))
     go (inr m) ih = ih m
 
-stands-value : (θ : Binding) (v : ℕ) (hs : List Head) (ss : List Stored) → HeadsAre θ hs ss → Stands hs v → (z : ℤ) × (variableValue θ v ≡ Number z)
+pub stands-value : (θ : Binding) (v : ℕ) (hs : List Head) (ss : List Stored) → HeadsAre θ hs ss → Stands hs v → (z : ℤ) × (variableValue θ v ≡ Number z)
 stands-value θ v [] ss u m = absurd (List·Memᴰ·not-nil (m .1))
 stands-value θ v (h ∷ hs) [] u m = absurd u
 stands-value θ v (h ∷ hs) (s ∷ ss) u m = go (List·Memᴰ·cases-cons (m .1)) (λ n. stands-value θ v hs ss (u .1) (m .0, n, m .2))
@@ -83,19 +81,7 @@ stands-value θ v (h ∷ hs) (s ∷ ss) u m = go (List·Memᴰ·cases-cons (m .1
     go (inl e) ih = slots-value θ v (h .slots) (arguments (s .fact)) (u .0 .slots) (subst (λ (x : Head). List·Memᴰ (Variable v) (take 4 (x .slots))) e (m .2))
     go (inr n) ih = ih n
 
--- ---- "guard or body variable in no head" is refused with 22: each variable of the guards stands in a head
-
-abbrev pub SlotIn : List Head → Slot → Type 0
-SlotIn hs Unused = Unit {0}
-SlotIn hs (Constant z) = Unit {0}
-SlotIn hs (Variable v) = Stands hs v
-SlotIn hs Bad = Unit {0}
-
-abbrev pub GuardIn : List Head → Guard → Type 0
-GuardIn hs g = SlotIn hs (g .left .left) × SlotIn hs (g .left .right) × SlotIn hs (g .right .left) × SlotIn hs (g .right .right)
-
-abbrev pub Covered : Rule → Type 0
-Covered r = every (GuardIn (heads r)) (r .guards)
+-- ---- a guard whose variables stand in heads
 
 module _ (hs : List Head) (ss : List Stored) (θ η : Binding) (m : HeadsAre θ hs ss) (part : PartOf θ η) where
   slot-any : (s : Slot) → SlotIn hs s → slotValue η s ≡ slotValue θ s
@@ -105,10 +91,13 @@ module _ (hs : List Head) (ss : List Stored) (θ η : Binding) (m : HeadsAre θ 
   slot-any (Variable v) u = let e = stands-value θ v hs ss m u in part v (e .0) (e .1) ∙ sym (e .1)
   slot-any Bad u = refl
 
+  expression-any : (e : Expression) → ExpressionIn hs e → expressionValue η e ≡ expressionValue θ e
+  unfolding expressionValue
+  expression-any e u = rw (slot-any (e .left) (u .left), slot-any (e .right) (u .right))
+
   comparison-any : (g : Guard) → GuardIn hs g → comparisonValue η g ≡ comparisonValue θ g
-  unfolding comparisonValue expressionValue
-  comparison-any g u =
-      rw (slot-any (g .left .left) (u .0), slot-any (g .left .right) (u .1), slot-any (g .right .left) (u .2), slot-any (g .right .right) (u .3))
+  unfolding comparisonValue
+  comparison-any g u = rw (expression-any (g .left) (u .left), expression-any (g .right) (u .right))
 
   guards-any : (gs : List Guard) → every (GuardIn hs) gs → guardValue η gs ≡ guardValue θ gs
   guards-any gs u = guards-by η θ gs (every-weaken (GuardIn hs) (λ (g : Guard). comparisonValue η g ≡ comparisonValue θ g) comparison-any gs u)

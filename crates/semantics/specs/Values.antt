@@ -1,0 +1,82 @@
+-- Values under a matching substitution: what it is for a guard and a body to have all their variables bound, and why one of their expressions has no
+-- value. "Each operation is exact; its value is undefined if it lies outside -2,147,483,648..2,147,483,647 or the divisor is 0."
+use Prim.Native.Nat.{ℕ}
+use mathlib.Core.Path.{_≡_}
+use mathlib.Core.Bool.{false}
+use mathlib.Core.Logic.{_⊎_}
+use mathlib.Core.List.{List, _∷_, _++_, List·Memᴰ}
+use lib.IntN.{ℤ, pos, _+ℤ_, _-ℤ_, _*ℤ_}
+use lib.Signed.{quotZ, remZ}
+use Rattle.numbers.specs.declared.Value.the-variants.{Number}
+use Rattle.numbers.specs.declared.Truth.the-variants.{True}
+use Rattle.numbers.specs.Numbers.{inRange}
+use Rattle.model.specs.declared.Symbol.{Symbol}
+use Rattle.model.specs.declared.Binding.{Binding}
+use Rattle.model.specs.declared.Slot.{Slot}
+use Rattle.model.specs.declared.Expression.{Expression}
+use Rattle.model.specs.Table.{Guard, BodyItem, bodyFact, bodyFail, Rule}
+use Rattle.model.specs.Guards.{slotValue, comparisonValue}
+use Rattle.model.proofs.Every.{every}
+
+-- ---- all variables are bound: each slot is a number
+
+pub record SlotBound (θ : Binding) (s : Slot) : Type 0 where
+  pub number : ℤ
+  pub value : slotValue θ s ≡ Number number
+
+pub record ExpressionBound (θ : Binding) (e : Expression) : Type 0 where
+  pub left : SlotBound θ (e .left)
+  pub right : SlotBound θ (e .right)
+
+pub record GuardBound (θ : Binding) (g : Guard) : Type 0 where
+  pub left : ExpressionBound θ (g .left)
+  pub right : ExpressionBound θ (g .right)
+
+abbrev pub ItemBound : Binding → BodyItem → Type 0
+ItemBound θ (bodyFact s es) = every (ExpressionBound θ) es
+ItemBound θ bodyFail = Unit {0}
+
+pub record RuleBound (θ : Binding) (r : Rule) : Type 0 where
+  pub guards : every (GuardBound θ) (r .guards)
+  pub body : every (ItemBound θ) (r .body)
+
+-- ---- the two causes
+
+-- z is the exact result of an operation on a and b: "1 sum, 2 difference, 3 product, 4 quotient, 5 remainder"
+pub data ResultIs (a b : ℤ) : ℕ → ℤ → Type 0 where
+  sum : ResultIs a b 1 (a +ℤ b)
+  difference : ResultIs a b 2 (a -ℤ b)
+  product : ResultIs a b 3 (a *ℤ b)
+  quotient : (b ≡ pos 0 → ⊥) → ResultIs a b 4 (quotZ a b)
+  remainder : (b ≡ pos 0 → ⊥) → ResultIs a b 5 (remZ a b)
+
+-- why an operation on a and b has no value: "the divisor is 0", or the exact result "lies outside" the range
+pub data NoValue (operation : ℕ) (a b : ℤ) : Type 0 where
+  zeroDivisor : (operation ≡ 4) ⊎ (operation ≡ 5) → b ≡ pos 0 → NoValue operation a b
+  outOfRange : (z : ℤ) → ResultIs a b operation z → inRange z ≡ false → NoValue operation a b
+
+-- an expression without a value: its slots are the numbers a and b
+pub record Lacks (θ : Binding) (e : Expression) : Type 0 where
+  pub a : ℤ
+  pub b : ℤ
+  pub left : slotValue θ (e .left) ≡ Number a
+  pub right : slotValue θ (e .right) ≡ Number b
+  pub cause : NoValue (e .operation) a b
+
+-- "A guard list is read left to right up to the first comparison that is not true. .. if it has an undefined side, the guard is undefined."
+pub record GuardLacks (θ : Binding) (gs : List Guard) : Type 0 where
+  pub before : List Guard
+  pub first : Guard
+  pub after : List Guard
+  pub whole : gs ≡ before ++ first ∷ after
+  pub holds : every (λ (g : Guard). comparisonValue θ g ≡ True) before
+  pub side : Lacks θ (first .left) ⊎ Lacks θ (first .right)
+
+-- "body argument undefined"
+pub record BodyLacks (θ : Binding) (is : List BodyItem) : Type 0 where
+  pub symbol : Symbol
+  pub arguments : List Expression
+  pub item : List·Memᴰ (bodyFact symbol arguments) is
+  pub argument : Expression
+  pub among : List·Memᴰ argument arguments
+  pub lacks : Lacks θ argument
