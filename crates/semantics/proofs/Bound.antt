@@ -5,10 +5,10 @@
 use Prim.Native.Nat.{ℕ, zero, suc, _≤_, _<_}
 use native.Mathlib.Omega.{arith}
 use native.Mathlib.Nat.{eq-zero-or-pos}
-use mathlib.Core.Path.{_≡_, refl, sym, _∙_, subst}
+use mathlib.Core.Path.{_≡_, refl}
 use mathlib.Core.Bool.{Bool, true, false, cond}
 use mathlib.Core.Option.{Option, none, some}
-use mathlib.Core.Logic.{_⊎_, inl, inr}
+use mathlib.Core.Logic.{_⊎_, inl, inr, _↔_}
 use mathlib.Core.List.{List, [], _∷_, List·Memᴰ, List·Memᴰ·head, List·Memᴰ·tail}
 use lib.IntN.{ℤ, pos, _+ℤ_, _-ℤ_, _*ℤ_}
 use lib.Signed.{quotZ, remZ}
@@ -36,16 +36,16 @@ use Rattle.model.specs.Fields.{arityAt}
 use Rattle.model.specs.Reading.{readOf}
 use Rattle.model.specs.Table.{Head, Guard, BodyItem, bodyFact, bodyFail, Rule, heads, tableOf, ruleAt}
 use Rattle.model.specs.Guards.{slotValue, expressionValue, comparisonValue, guardValue}
-use Rattle.model.specs.Steps.{State, consDefined, argumentValues, waitingIf, itemEntry, consEntry, bodyEntries}
+use Rattle.model.specs.Steps.{consDefined, argumentValues, waitingIf, itemEntry, consEntry, bodyEntries}
 use Rattle.model.proofs.Every.{every, every-by, every-both, every-weaken}
 use Rattle.model.proofs.Lists.{every-mem}
 use Rattle.model.proofs.Sound.{Distinct, idsOf}
-use Rattle.model.proofs.Parts.{UsedSlot, SlotIn, ExpressionIn, GoodExpression, noExpression, GoodGuard, GoodFact, GoodItem, GoodParts, rule-parts, guards-covered}
+use Rattle.model.proofs.Parts.{UsedSlot, SlotIn, ExpressionIn, GoodExpression, noExpression, GoodGuard, GoodFact, GoodItem, OfGuard}
+use Rattle.model.proofs.Parts.{OfItem, EachExpression, each-weaken, rule-parts, variables-stand}
 use Rattle.semantics.specs.Instances.{HeadsAre, Matching}
-use Rattle.semantics.specs.Values.{SlotBound, ExpressionBound, GuardBound, ItemBound, RuleBound, ResultIs, sum, difference, product, quotient}
+use Rattle.semantics.specs.Values.{SlotBound, ExpressionBound, ResultIs, sum, difference, product, quotient}
 use Rattle.semantics.specs.Values.{remainder, NoValue, zeroDivisor, outOfRange, Lacks, GuardLacks, BodyLacks}
-use Rattle.semantics.specs.Refined.{Trying, ruleTried, Enabled}
-use Rattle.semantics.specs.Chosen.{First}
+use Rattle.semantics.specs.Refined.{Enabled}
 use Rattle.semantics.proofs.Substitutions.{stands-value, enabled-by-any}
 
 -- ---- each slot is a number
@@ -99,7 +99,7 @@ module _ (θ : Binding) (hs : List Head) (ss : List Stored) (m : HeadsAre θ hs 
         one e (inl u) i = expression-ready e u i
         one e (inr u) i = rw u (none-ready θ)
 
--- ---- an expression without a value
+-- ---- an expression without a value: the operation on its two numbers has none
 
 never : {A : Type 0} {v : ℤ} → _≡_ {A = Value} (Number v) Undefined → A
 never e = absurd (let z : _≡_ {A = ℕ} 0 1 = cc in omega arith)
@@ -148,6 +148,41 @@ expression-lacks θ e r u = record {
       (rw (r .bound .left .value, r .bound .right .value) at u);
 }
 
+-- and back: such an expression has no value
+exact-outside : (z : ℤ) → inRange z ≡ false → exact z ≡ Undefined
+unfolding exact
+exact-outside z e = rw e
+
+divided-outside : (b z : ℤ) → inRange z ≡ false → unlessZero b (exact z) ≡ Undefined
+unfolding unlessZero
+divided-outside b z e = rw (exact-outside z e) (go (equal b (pos 0)))
+  where
+    go : (x : Bool) → cond x Undefined Undefined ≡ Undefined
+    go true = refl
+    go false = refl
+
+divided-zero : (b : ℤ) (v : Value) → b ≡ pos 0 → unlessZero b v ≡ Undefined
+unfolding unlessZero
+divided-zero b v e = rw e
+
+result-outside : (op : ℕ) (a b z : ℤ) → ResultIs a b op z → inRange z ≡ false → evaluate op (Number a) (Number b) ≡ Undefined
+unfolding evaluate onNumbers operate sumOf differenceOf productOf quotientOf remainderOf
+result-outside op a b z sum e = exact-outside z e
+result-outside op a b z difference e = exact-outside z e
+result-outside op a b z product e = exact-outside z e
+result-outside op a b z (quotient d) e = divided-outside b z e
+result-outside op a b z (remainder d) e = divided-outside b z e
+
+no-value : (op : ℕ) (a b : ℤ) → NoValue op a b → evaluate op (Number a) (Number b) ≡ Undefined
+unfolding evaluate onNumbers operate quotientOf remainderOf
+no-value op a b (zeroDivisor (inl e) z) = rw e (divided-zero b (exact (quotZ a b)) z)
+no-value op a b (zeroDivisor (inr e) z) = rw e (divided-zero b (exact (remZ a b)) z)
+no-value op a b (outOfRange z r e) = result-outside op a b z r e
+
+pub lacks-value : (θ : Binding) (e : Expression) → Lacks θ e → expressionValue θ e ≡ Undefined
+unfolding expressionValue
+lacks-value θ e l = rw (l .left, l .right) (no-value (e .operation) (l .a) (l .b) (l .cause))
+
 -- ---- a guard without a value
 
 told-known : (b : Bool) → told b ≡ Unknown → ⊥
@@ -161,23 +196,18 @@ undefined-side cmp (Number a) (Number b) l e = absurd (told-known (holds cmp a b
 undefined-side cmp (Number a) Undefined l e = inr refl
 undefined-side cmp Undefined y l e = inl refl
 
-record GuardReady (θ : Binding) (g : Guard) : Type 0 where
-  comparator : g .comparator ≤ 5
-  left : Ready θ (g .left)
-  right : Ready θ (g .right)
-
-comparison-lacks : (θ : Binding) (g : Guard) → GuardReady θ g → comparisonValue θ g ≡ Unknown → Lacks θ (g .left) ⊎ Lacks θ (g .right)
+comparison-lacks : (θ : Binding) (g : Guard) → g .comparator ≤ 5 → OfGuard (Ready θ) g → comparisonValue θ g ≡ Unknown → Lacks θ (g .left) ⊎ Lacks θ (g .right)
 unfolding comparisonValue
-comparison-lacks θ g r e = go (undefined-side (g .comparator) (expressionValue θ (g .left)) (expressionValue θ (g .right)) (r .comparator) e)
+comparison-lacks θ g l r e = go (undefined-side (g .comparator) (expressionValue θ (g .left)) (expressionValue θ (g .right)) l e)
   where
     go : (expressionValue θ (g .left) ≡ Undefined) ⊎ (expressionValue θ (g .right) ≡ Undefined) → Lacks θ (g .left) ⊎ Lacks θ (g .right)
     go (inl u) = inl (expression-lacks θ (g .left) (r .left) u)
     go (inr u) = inr (expression-lacks θ (g .right) (r .right) u)
 
-guards-lack : (θ : Binding) (gs : List Guard) → every (GuardReady θ) gs → guardValue θ gs ≡ Unknown → GuardLacks θ gs
+guards-lack : (θ : Binding) (gs : List Guard) → every (λ (g : Guard). g .comparator ≤ 5) gs → every (OfGuard (Ready θ)) gs → guardValue θ gs ≡ Unknown → GuardLacks θ gs
 unfolding guardValue
-guards-lack θ [] u e = absurd (let z : _≡_ {A = ℕ} 0 1 = cc in omega arith)
-guards-lack θ (g ∷ gs) u e = go (comparisonValue θ g) refl (guards-lack θ gs (u .1)) e
+guards-lack θ [] l u e = absurd (let z : _≡_ {A = ℕ} 0 1 = cc in omega arith)
+guards-lack θ (g ∷ gs) l u e = go (comparisonValue θ g) refl (guards-lack θ gs (l .1) (u .1)) e
   where
     go : (x : Truth) → comparisonValue θ g ≡ x → (guardValue θ gs ≡ Unknown → GuardLacks θ gs)
         → elim x [ True ↦ guardValue θ gs | False ↦ False | Unknown ↦ Unknown ] ≡ Unknown → GuardLacks θ (g ∷ gs)
@@ -192,7 +222,7 @@ guards-lack θ (g ∷ gs) u e = go (comparisonValue θ g) refl (guards-lack θ g
           side = r .side;
         }
     go False q ih e = absurd (let z : _≡_ {A = ℕ} 0 1 = cc in omega arith)
-    go Unknown q ih e = record { before = []; first = g; after = gs; whole = refl; holds = tt; side = comparison-lacks θ g (u .0) q }
+    go Unknown q ih e = record { before = []; first = g; after = gs; whole = refl; holds = tt; side = comparison-lacks θ g (l .0) (u .0) q }
 
 -- ---- a body without entries
 
@@ -211,11 +241,7 @@ arguments-lack θ (x ∷ es) e = go (expressionValue θ x) (argumentValues θ es
     go (Number v) none q ih e = let r = ih refl in (r .0, List·Memᴰ·tail (r .1), r .2)
     go (Number v) (some vs) q ih e = absent e
 
-abbrev ItemReady : Binding → BodyItem → Type 0
-ItemReady θ (bodyFact s es) = every (Ready θ) es
-ItemReady θ bodyFail = Unit {0}
-
-item-lacks : (θ : Binding) (i : BodyItem) (is : List BodyItem) → ItemReady θ i → itemEntry θ i ≡ none → BodyLacks θ (i ∷ is)
+item-lacks : (θ : Binding) (i : BodyItem) (is : List BodyItem) → OfItem (Ready θ) i → itemEntry θ i ≡ none → BodyLacks θ (i ∷ is)
 unfolding itemEntry
 item-lacks θ (bodyFact s es) is u = go (argumentValues θ es) refl
   where
@@ -233,7 +259,7 @@ item-lacks θ (bodyFact s es) is u = go (argumentValues θ es) refl
     go (some vs) q e = absent e
 item-lacks θ bodyFail is u = λ e. absent e
 
-body-lacks : (θ : Binding) (is : List BodyItem) → every (ItemReady θ) is → bodyEntries θ is ≡ none → BodyLacks θ is
+body-lacks : (θ : Binding) (is : List BodyItem) → every (OfItem (Ready θ)) is → bodyEntries θ is ≡ none → BodyLacks θ is
 unfolding bodyEntries
 body-lacks θ [] u e = absent e
 body-lacks θ (i ∷ is) u e = go (itemEntry θ i) (bodyEntries θ is) refl (body-lacks θ is (u .1)) e
@@ -259,46 +285,47 @@ module _ (t : List ℕ) (good : readOf t .verdict ≡ Good) (p : HeadPlace) (fac
   rule = ruleAt (tableOf t) (p .rule)
 
   module _ (m : HeadsAre θ (heads rule) facts) where
-    guards-ready : every (GuardReady θ) (rule .guards)
-    guards-ready =
-        every-weaken (GoodGuard (heads rule)) (GuardReady θ)
-        (λ g q. record {
-          comparator = q .comparator;
-          left = expression-ready θ (heads rule) facts m (g .left) (q .left) (q .bound .left);
-          right = expression-ready θ (heads rule) facts m (g .right) (q .right) (q .bound .right);
-        })
-        (rule .guards) (rule-parts t good (p .rule) .eachGuard)
-
-    body-ready : every (ItemReady θ) (rule .body)
-    body-ready = every-weaken (GoodItem t (tableOf t .symbols) (heads rule)) (ItemReady θ) item (rule .body) (rule-parts t good (p .rule) .eachItem)
+    each-ready : EachExpression (Ready θ) rule
+    each-ready = record {
+      guards = every-weaken (GoodGuard (heads rule)) (OfGuard (Ready θ))
+          (λ g q. record {
+            left = expression-ready θ (heads rule) facts m (g .left) (q .left) (q .bound .left);
+            right = expression-ready θ (heads rule) facts m (g .right) (q .right) (q .bound .right);
+          })
+          (rule .guards) (rule-parts t good (p .rule) .eachGuard);
+      body = every-weaken (GoodItem t (tableOf t .symbols) (heads rule)) (OfItem (Ready θ)) item (rule .body) (rule-parts t good (p .rule) .eachItem);
+    }
       where
-        item : (i : BodyItem) → GoodItem t (tableOf t .symbols) (heads rule) i → ItemReady θ i
+        item : (i : BodyItem) → GoodItem t (tableOf t .symbols) (heads rule) i → OfItem (Ready θ) i
         item (bodyFact s es) q = argument-ready θ (heads rule) facts m t (tableOf t .symbols) s es q
         item bodyFail q = tt
 
-    -- wherever a substitution makes the heads equal to the facts, every slot of the guards and of the body is a number
-    pub heads-bind : RuleBound θ rule
-    heads-bind = record {
-      guards = every-weaken (GuardReady θ) (GuardBound θ) (λ g q. record { left = q .left .bound; right = q .right .bound }) (rule .guards) guards-ready;
-      body = every-weaken (ItemReady θ) (ItemBound θ) item (rule .body) body-ready;
-    }
-      where
-        item : (i : BodyItem) → ItemReady θ i → ItemBound θ i
-        item (bodyFact s es) q = every-weaken (Ready θ) (ExpressionBound θ) (λ e r. r .bound) es q
-        item bodyFail q = tt
+    -- wherever a substitution makes the heads equal to the facts, each slot of each expression of the guards and of the body is a number
+    pub heads-bind : EachExpression (ExpressionBound θ) rule
+    heads-bind = each-weaken (Ready θ) (ExpressionBound θ) (λ e r. r .bound) rule each-ready
 
   module _ (store : List Stored) (i : FactId) (m : Matching store p rule i facts θ) where
     -- every variable of a guard or of a body is bound in every complete match
-    pub match-binds : RuleBound θ rule
+    pub match-binds : EachExpression (ExpressionBound θ) rule
     match-binds = heads-bind (m .matched)
 
-    -- an undefined guard: the first comparison that is not true has a side without a value, for one of the two causes
-    pub guard-cause : guardValue θ (rule .guards) ≡ Unknown → GuardLacks θ (rule .guards)
-    guard-cause e = guards-lack θ (rule .guards) (guards-ready (m .matched)) e
+    -- an expression has no value exactly for one of the two causes
+    pub match-causes : EachExpression (λ (e : Expression). (expressionValue θ e ≡ Undefined) ↔ Lacks θ e) rule
+    match-causes =
+        each-weaken (Ready θ) (λ (e : Expression). (expressionValue θ e ≡ Undefined) ↔ Lacks θ e)
+        (λ e r. (expression-lacks θ e r, lacks-value θ e)) rule (each-ready (m .matched))
 
-    -- a body without entries: an argument of one of its facts has no value, for one of the two causes
+    -- an undefined guard: the first comparison that is not true has a side without a value
+    pub guard-cause : guardValue θ (rule .guards) ≡ Unknown → GuardLacks θ (rule .guards)
+    guard-cause e =
+        guards-lack θ (rule .guards)
+        (every-weaken (GoodGuard (heads rule)) (λ (g : Guard). g .comparator ≤ 5) (λ g q. q .comparator) (rule .guards)
+        (rule-parts t good (p .rule) .eachGuard))
+        (each-ready (m .matched) .guards) e
+
+    -- a body without entries: an argument of one of its facts has no value
     pub body-cause : bodyEntries θ (rule .body) ≡ none → BodyLacks θ (rule .body)
-    body-cause e = body-lacks θ (rule .body) (body-ready (m .matched)) e
+    body-cause e = body-lacks θ (rule .body) (each-ready (m .matched) .body) e
 
 -- facts that any substitution makes equal to the heads, with a guard that is true under it, are an instance with a true guard
 pub good-enabled-by-any : (t : List ℕ) → readOf t .verdict ≡ Good → (S : List Stored) (p : HeadPlace) (i : FactId) (facts : List Stored) (η : Binding)
@@ -306,4 +333,4 @@ pub good-enabled-by-any : (t : List ℕ) → readOf t .verdict ≡ Good → (S :
     → getElem? (idsOf facts) (p .head) ≡ some i → guardValue η (ruleAt (tableOf t) (p .rule) .guards) ≡ True → (θ : Binding) × Enabled (tableOf t) S p i facts θ
 good-enabled-by-any t good S p i facts η =
     enabled-by-any (tableOf t) S p i facts η
-    (guards-covered t (tableOf t .symbols) (ruleAt (tableOf t) (p .rule)) (rule-parts t good (p .rule)))
+    (variables-stand t (tableOf t .symbols) (ruleAt (tableOf t) (p .rule)) (rule-parts t good (p .rule)) .guards)

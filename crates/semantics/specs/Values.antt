@@ -1,5 +1,6 @@
--- Values under a matching substitution: what it is for a guard and a body to have all their variables bound, and why one of their expressions has no
--- value. "Each operation is exact; its value is undefined if it lies outside -2,147,483,648..2,147,483,647 or the divisor is 0."
+-- Values under a matching substitution: what it is for a guard and a body to have all their variables bound, why one of their expressions has no value,
+-- and what a run that ends in 3 or 4 has met. "Each operation is exact; its value is undefined if it lies outside -2,147,483,648..2,147,483,647 or the
+-- divisor is 0."
 use Prim.Native.Nat.{ℕ}
 use mathlib.Core.Path.{_≡_}
 use mathlib.Core.Bool.{false}
@@ -8,15 +9,19 @@ use mathlib.Core.List.{List, _∷_, _++_, List·Memᴰ}
 use lib.IntN.{ℤ, pos, _+ℤ_, _-ℤ_, _*ℤ_}
 use lib.Signed.{quotZ, remZ}
 use Rattle.numbers.specs.declared.Value.the-variants.{Number}
-use Rattle.numbers.specs.declared.Truth.the-variants.{True}
+use Rattle.numbers.specs.declared.Truth.the-variants.{True, Undefined as Unknown}
 use Rattle.numbers.specs.Numbers.{inRange}
+use Rattle.model.specs.declared.FactId.{FactId}
 use Rattle.model.specs.declared.Symbol.{Symbol}
+use Rattle.model.specs.declared.Stored.{Stored}
+use Rattle.model.specs.declared.HeadPlace.{HeadPlace}
 use Rattle.model.specs.declared.Binding.{Binding}
 use Rattle.model.specs.declared.Slot.{Slot}
 use Rattle.model.specs.declared.Expression.{Expression}
-use Rattle.model.specs.Table.{Guard, BodyItem, bodyFact, bodyFail, Rule}
-use Rattle.model.specs.Guards.{slotValue, comparisonValue}
+use Rattle.model.specs.Table.{Guard, BodyItem, bodyFact, Table, ruleAt}
+use Rattle.model.specs.Guards.{slotValue, comparisonValue, guardValue}
 use Rattle.model.proofs.Every.{every}
+use Rattle.semantics.specs.Instances.{Matching}
 
 -- ---- all variables are bound: each slot is a number
 
@@ -27,18 +32,6 @@ pub record SlotBound (θ : Binding) (s : Slot) : Type 0 where
 pub record ExpressionBound (θ : Binding) (e : Expression) : Type 0 where
   pub left : SlotBound θ (e .left)
   pub right : SlotBound θ (e .right)
-
-pub record GuardBound (θ : Binding) (g : Guard) : Type 0 where
-  pub left : ExpressionBound θ (g .left)
-  pub right : ExpressionBound θ (g .right)
-
-abbrev pub ItemBound : Binding → BodyItem → Type 0
-ItemBound θ (bodyFact s es) = every (ExpressionBound θ) es
-ItemBound θ bodyFail = Unit {0}
-
-pub record RuleBound (θ : Binding) (r : Rule) : Type 0 where
-  pub guards : every (GuardBound θ) (r .guards)
-  pub body : every (ItemBound θ) (r .body)
 
 -- ---- the two causes
 
@@ -80,3 +73,31 @@ pub record BodyLacks (θ : Binding) (is : List BodyItem) : Type 0 where
   pub argument : Expression
   pub among : List·Memᴰ argument arguments
   pub lacks : Lacks θ argument
+
+-- ---- the endings 3 and 4 of a run of the table t, with the facts that were stored then and the place, which is the rule
+
+-- 3: "guard undefined"
+pub record GuardStops (t : Table) (store : List Stored) (place : ℕ) : Type 0 where
+  pub head : HeadPlace
+  pub rule : place ≡ head .rule .0
+  pub active : FactId
+  pub facts : List Stored
+  pub θ : Binding
+  pub matching : Matching store head (ruleAt t (head .rule)) active facts θ
+  pub guard : guardValue θ (ruleAt t (head .rule) .guards) ≡ Unknown
+  pub cause : GuardLacks θ (ruleAt t (head .rule) .guards)
+
+-- 4: "body argument undefined"
+pub record BodyStops (t : Table) (store : List Stored) (place : ℕ) : Type 0 where
+  pub head : HeadPlace
+  pub rule : place ≡ head .rule .0
+  pub active : FactId
+  pub facts : List Stored
+  pub θ : Binding
+  pub matching : Matching store head (ruleAt t (head .rule)) active facts θ
+  pub guard : guardValue θ (ruleAt t (head .rule) .guards) ≡ True
+  pub cause : BodyLacks θ (ruleAt t (head .rule) .body)
+
+pub record Causes (t : Table) (store : List Stored) (number place : ℕ) : Type 0 where
+  pub three : number ≡ 3 → GuardStops t store place
+  pub four : number ≡ 4 → BodyStops t store place
