@@ -5,6 +5,7 @@ pub mod Found
 pub mod Occurrence
 pub mod Substitutions
 pub mod Bound
+pub mod Sources
 pub mod Following
 pub mod Steps
 pub mod Runs
