@@ -204,7 +204,8 @@ comparison-lacks θ g l r e = go (undefined-side (g .comparator) (expressionValu
     go (inl u) = inl (expression-lacks θ (g .left) (r .left) u)
     go (inr u) = inr (expression-lacks θ (g .right) (r .right) u)
 
-guards-lack : (θ : Binding) (gs : List Guard) → every (λ (g : Guard). g .comparator ≤ 5) gs → every (OfGuard (Ready θ)) gs → guardValue θ gs ≡ Unknown → GuardLacks θ gs
+guards-lack : (θ : Binding) (gs : List Guard) → every (λ (g : Guard). g .comparator ≤ 5) gs → every (OfGuard (Ready θ)) gs
+    → guardValue θ gs ≡ Unknown → GuardLacks θ gs
 unfolding guardValue
 guards-lack θ [] l u e = absurd (let z : _≡_ {A = ℕ} 0 1 = cc in omega arith)
 guards-lack θ (g ∷ gs) l u e = go (comparisonValue θ g) refl (guards-lack θ gs (l .1) (u .1)) e

@@ -36,7 +36,7 @@ use Rattle.model.proofs.Kept.{Rising, rising-snoc, rising-keep}
 use Rattle.model.proofs.Loop.{behindStep, every-run}
 use Rattle.model.proofs.Results.{run-cases}
 use Rattle.semantics.specs.Instances.{Matching}
-use Rattle.semantics.specs.Values.{GuardLacks, BodyLacks, Causes}
+use Rattle.semantics.specs.Values.{GuardLacks, BodyLacks, Causes, EndCauses}
 use Rattle.semantics.specs.Refined.{Trying, ruleTried}
 use Rattle.semantics.specs.Chosen.{First}
 use Rattle.semantics.proofs.Found.{Verdict}
@@ -138,7 +138,8 @@ module _ (t : List ℕ) (good : readOf t .verdict ≡ Good) where
     unfolding dropped
     place-caused i j none q = rises
     place-caused i j (some p) q =
-        let inside = every-mem (PlaceIn T (e .symbol)) (places T (e .symbol)) (places-in T (e .symbol)) p (index-mem (places T (e .symbol)) (j - 1) p q) .headIn in
+        let ps : List HeadPlace = places T (e .symbol) in
+        let inside = every-mem (PlaceIn T (e .symbol)) ps (places-in T (e .symbol)) p (index-mem ps (j - 1) p q) .headIn in
         found-caused i j p inside (firstInstance (st .store) (st .history) p (ruleAt T (p .rule)) i)
         (first-verdict (st .store) (st .history) p (ruleAt T (p .rule)) (st .next) rises inside i)
 
@@ -152,11 +153,11 @@ module _ (t : List ℕ) (good : readOf t .verdict ≡ Good) where
   -- ---- the run
 
   abbrev All : ℕ → Counts → State → Ended → Type 0
-  All limit c st r = Rises st → Causes T (r .store) (r .result .number) (r .result .place)
+  All limit c st r = Rises st → EndCauses T r
 
   module _ (limit : ℕ) (c : Counts) (st : State) (ih : (c : Counts) (st : State) → All limit c st (runFrom T limit c st)) where
     turn-caused : (o : Outcome) → Caused T st o
-        → Causes T (behindStep prunes T limit c st o .store) (behindStep prunes T limit c st o .result .number) (behindStep prunes T limit c st o .result .place)
+        → EndCauses T (behindStep prunes T limit c st o)
     unfolding endedAs
     turn-caused (moves next) u = ih (stepped c) next u
     turn-caused (fires next) u = ih (firedOnce c) next u
@@ -172,8 +173,7 @@ module _ (t : List ℕ) (good : readOf t .verdict ≡ Good) where
       (λ limit c st e es q ih r. turn-caused limit c st ih (stepItem T st e es (e .item)) (step-caused prunes st r e es (e .item)))
 
   -- every run of a good table, with the facts that it has stored at the end
-  pub run-caused : (goal : List Fact) (limit : ℕ)
-      → Causes T (run T limit (start goal) .store) (run T limit (start goal) .result .number) (run T limit (start goal) .result .place)
+  pub run-caused : (goal : List Fact) (limit : ℕ) → EndCauses T (run T limit (start goal))
   unfolding run start
   run-caused goal limit = from-caused limit noCounts (start goal) (omega arith)
 

@@ -20,6 +20,7 @@ use Rattle.model.specs.declared.Slot.{Slot}
 use Rattle.model.specs.declared.Expression.{Expression}
 use Rattle.model.specs.Table.{Guard, BodyItem, bodyFact, Table, ruleAt}
 use Rattle.model.specs.Guards.{slotValue, comparisonValue, guardValue}
+use Rattle.model.specs.Run.{Ended}
 use Rattle.model.proofs.Every.{every}
 use Rattle.semantics.specs.Instances.{Matching}
 
@@ -101,3 +102,7 @@ pub record BodyStops (t : Table) (store : List Stored) (place : ℕ) : Type 0 wh
 pub record Causes (t : Table) (store : List Stored) (number place : ℕ) : Type 0 where
   pub three : number ≡ 3 → GuardStops t store place
   pub four : number ≡ 4 → BodyStops t store place
+
+-- a run's end, with the facts that it has stored
+abbrev pub EndCauses : Table → Ended → Type 0
+EndCauses t r = Causes t (r .store) (r .result .number) (r .result .place)
