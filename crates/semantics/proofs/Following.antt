@@ -41,7 +41,7 @@ use Rattle.semantics.proofs.Occurrence.{same-stored}
 
 -- ---- identifiers in lists
 
-among-mem : (i : FactId) (is : List FactId) → List·Memᴰ i is → isAmong i is ≡ true
+pub among-mem : (i : FactId) (is : List FactId) → List·Memᴰ i is → isAmong i is ≡ true
 unfolding isAmong
 among-mem i [] m = absurd (List·Memᴰ·not-nil m)
 among-mem i (j ∷ is) m = go (List·Memᴰ·cases-cons m) (λ m. among-mem i is m)
@@ -63,7 +63,7 @@ mem-among i (j ∷ is) e = go (sameId i j) refl e (λ e. mem-among i is e)
     go true q e ih = List·Memᴰ·head (same-id i j q)
     go false q e ih = List·Memᴰ·tail (ih e)
 
-ids-mem : (s : Stored) (ss : List Stored) → List·Memᴰ s ss → List·Memᴰ (s .id) (idsOf ss)
+pub ids-mem : (s : Stored) (ss : List Stored) → List·Memᴰ s ss → List·Memᴰ (s .id) (idsOf ss)
 ids-mem s [] m = absurd (List·Memᴰ·not-nil m)
 ids-mem s (x ∷ ss) m = go (List·Memᴰ·cases-cons m) (λ m. ids-mem s ss m)
   where
@@ -236,7 +236,7 @@ pub record Follows (t : Table) (st : State) (T : List Fired) : Type 0 where
 
 -- ---- both know the same instances
 
-heads-count : (θ : Binding) (hs : List Head) (ss : List Stored) → HeadsAre θ hs ss → length ss ≡ length hs
+pub heads-count : (θ : Binding) (hs : List Head) (ss : List Stored) → HeadsAre θ hs ss → length ss ≡ length hs
 heads-count θ [] [] m = refl
 heads-count θ [] (s ∷ ss) m = absurd m
 heads-count θ (h ∷ hs) [] m = absurd m
@@ -244,7 +244,7 @@ heads-count θ (h ∷ hs) (s ∷ ss) m = ap suc (heads-count θ hs ss (m .1))
 
 module _ (t : Table) (st : State) (T : List Fired) (k : Follows t st T) (p : HeadPlace) (i : FactId) (facts : List Stored) (θ : Binding)
     (m : Matching (st .store) p (ruleAt t (p .rule)) i facts θ) where
-  ids-count : length (idsOf facts) ≡ length (heads (ruleAt t (p .rule)))
+  pub ids-count : length (idsOf facts) ≡ length (heads (ruleAt t (p .rule)))
   ids-count = length-map facts (λ (s : Stored). s .id) ∙ heads-count θ (heads (ruleAt t (p .rule))) facts (m .matched)
 
   -- an instance of T is in the definition's history
@@ -360,7 +360,7 @@ module _ (t : Table) (st : State) (T : List Fired) (k : Follows t st T) (p : Hea
       right true e = absurd (let w : _≡_ {A = ℕ} 0 1 = cc in omega arith)
       right false e = e
 
-  nobody-live : Live (idsOf H) nobody
+  pub nobody-live : Live (idsOf H) nobody
   nobody-live = go (isAmong nobody (idsOf H)) refl
     where
       go : (x : Bool) → isAmong nobody (idsOf H) ≡ x → isAmong nobody (idsOf H) ≡ false

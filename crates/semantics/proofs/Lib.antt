@@ -8,5 +8,6 @@ pub mod Bound
 pub mod Sources
 pub mod Following
 pub mod Steps
+pub mod Held
 pub mod Runs
 pub mod Located

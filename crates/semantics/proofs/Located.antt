@@ -35,7 +35,7 @@ use Rattle.semantics.specs.Located.{Local, OtherItem, Fresh, LocalStep, 
 use Rattle.semantics.specs.Located.{stays, goes}
 use Rattle.semantics.proofs.Occurrence.{index-mem}
 use Rattle.semantics.proofs.Following.{Noted, ItemIs, EntryIs, Whole, Keeps, Follows, known-here, in-history}
-use Rattle.semantics.proofs.Steps.{FewHeads, seen, start-follows, Taken, step-taken}
+use Rattle.semantics.proofs.Steps.{FewHeads, seen, start-follows, Taken, stopped-number, Anything, step-taken}
 
 -- the localized state: nothing waits in the buffer
 abbrev pub local : State → List Fired → Local
@@ -92,26 +92,26 @@ module _ (t : Table) where
     moves-locally : (next : State) (T′ : List Fired) → Moves t (seen st T) (seen next T′) → LocalStep t (local st T) (local next T′)
     moves-locally next T′ (activates s) =
         activate (record {
-          c = s .c;
-          under = s .under;
+          c = s .step .c;
+          under = s .step .under;
           d = record { 0 = st .next };
-          top = s .top;
+          top = s .step .top;
           fresh = fresh-next;
           U = refl;
-          G = s .stack;
-          S = s .store;
-          H = s .history;
+          G = s .step .stack;
+          S = s .step .store;
+          H = s .step .history;
         })
     moves-locally next T′ (drops s) =
         drop- (record { symbol = s .symbol; d = s .id; i = s .j; top = s .top; absent = s .absent; U = refl; S = s .store; H = s .history })
     moves-locally next T′ (defaults s) = suspend (record {
-      tried = s .tried;
-      noRemove = λ l facts θ e. s .none facts θ (record { enabled = e; fresh = removed-fresh (s .tried) facts θ l (e .matching) });
-      noKeep = λ l. s .none;
+      tried = s .step .tried;
+      noRemove = λ l facts θ e. s .step .none facts θ (record { enabled = e; fresh = removed-fresh (s .step .tried) facts θ l (e .matching) });
+      noKeep = λ l. s .step .none;
       U = refl;
-      G = s .stack;
-      S = s .store;
-      H = s .history;
+      G = s .step .stack;
+      S = s .step .store;
+      H = s .step .history;
     })
 
   -- what (Remove) does not put down is not missed
@@ -136,7 +136,7 @@ module _ (t : Table) where
 
   fires-locally : (st next : State) (T T′ : List Fired) → Follows t next T′ → FiresFirst t (seen st T) (seen next T′)
       → (H′ : List Fired) × Follows t next H′ × LocalStep t (local st T) (local next H′)
-  fires-locally st next T T′ k (simplifies s u) = (
+  fires-locally st next T T′ k (simplifies s u l) = (
     T,
     forgets next (firing (s .tried .place) (s .facts)) T (removed-some (s .tried) (s .removed)) (subst (Follows t next) (s .history) k),
     remove (record {
@@ -152,7 +152,7 @@ module _ (t : Table) where
       H = refl;
     }),
   )
-  fires-locally st next T T′ k (propagates s u) = (
+  fires-locally st next T T′ k (propagates s u l) = (
     T′,
     k,
     keep (record {
@@ -173,11 +173,11 @@ module _ (t : Table) (few : FewHeads t) (st : State) (H : List Fired) (k : Follo
   pub step-local : LocallyTaken t st H (stepItem t st e es (e .item))
   step-local = go (stepItem t st e es (e .item)) (step-taken t few st H k e es q (e .item) refl)
     where
-      go : (o : Outcome) → Taken t st H o → LocallyTaken t st H o
-      go (moves next) u = (u .0, u .1, moves-locally t st H k next (u .0) (u .2))
-      go (fires next) u = fires-locally t st next H (u .0) (u .1) (u .2)
+      go : (o : Outcome) → Taken t Anything st H prunes o → LocallyTaken t st H o
+      go (moves next) u = (u .0, u .1, moves-locally t st H k next (u .0) (u .3))
+      go (fires next) u = fires-locally t st next H (u .1 .T′) (u .1 .follows) (u .1 .fires)
       go fails u = tt
-      go (stops n p) u = u .0
+      go (stops n p) u = stopped-number t Anything st H prunes n p u
 
 -- ---- a run that ends in 0 is a whole derivation of the figure
 

@@ -241,7 +241,7 @@ module _ (b c : Binding) (p : PartOf b c) (q : PartOf c b) where
   slot-same (Variable v) = variable-same v
   slot-same Bad = refl
 
-  expression-same : (e : Expression) → expressionValue b e ≡ expressionValue c e
+  pub expression-same : (e : Expression) → expressionValue b e ≡ expressionValue c e
   unfolding expressionValue
   expression-same e = rw (slot-same (e .left), slot-same (e .right))
 

@@ -1,17 +1,21 @@
--- Every run is a derivation of the refined semantics from its goal: as many transitions as steps, as many of them firings as firings, with the
--- store and the next identifier of the result. One that ends in 0 ends in a state with an empty stack, from which there is no transition; one that
--- ends in 1 in a failed state; where a run stops with 3, the first instance that is left has a guard with no value. Step by step, by `step-taken`.
+-- Every run, with its ending, is what document 01 chooses from its goal: step by step, by `step-held`. What document 01 chooses is a derivation of
+-- the refined semantics: as many transitions as steps, as many of them firings as firings, with the store and the next identifier of the result. One
+-- that ends in 0 ends in a state with an empty stack, from which there is no transition; one that ends in 1 in a failed state.
 use Prim.Native.Nat.{ℕ, suc, _+_, _-_, _<_}
 use native.Mathlib.Omega.{arith}
 use mathlib.Core.Path.{_≡_, refl, sym, _∙_, ap, subst}
 use mathlib.Core.List.{List, [], _∷_, map}
+use lib.ListN.{length}
+use borrow.Author.Tests.{leb-true, leb-false}
 use Rattle.model.specs.declared.Fact.{Fact}
+use Rattle.model.specs.declared.RuleNumber.{RuleNumber}
 use Rattle.model.specs.declared.Entry.{Entry}
 use Rattle.model.specs.declared.Verdict.the-variants.{Good}
+use Rattle.model.specs.Limits.{historyRoom}
 use Rattle.model.specs.Reading.{readOf}
 use Rattle.model.specs.Table.{Table, tableOf}
 use Rattle.model.specs.Search.{Fired}
-use Rattle.model.specs.Steps.{State, waiting, start, prunes, Outcome, moves, fires, fails, stops, stepItem}
+use Rattle.model.specs.Steps.{State, waiting, start, prunes, Outcome, moves as moves-, fires as fires-, fails as fails-, stops as stops-, stepItem}
 use Rattle.model.specs.Results.{Counts, noCounts}
 use Rattle.model.specs.Run.{Ended, endedAs, stepped, firedOnce, runFrom, run}
 use Rattle.model.specs.Keeping.{keepRun}
@@ -20,14 +24,17 @@ use Rattle.model.specs.Calls.{RunOutput, outputOf, runOf}
 use Rattle.model.proofs.Every.{every}
 use Rattle.model.proofs.Good.{good-table}
 use Rattle.model.proofs.Decoded.{every-heads-few}
-use Rattle.model.proofs.Loop.{behindStep, every-run}
+use Rattle.model.proofs.Loop.{run-done as run-empty, behindStep, every-run}
 use Rattle.model.proofs.Pruning.{pruning}
 use Rattle.model.proofs.Results.{run-cases}
 use Rattle.semantics.specs.Refined.{Config, holds, failed, Step, solve, activate, drops, simplify, propagate, default, Derivation, stays, goes}
 use Rattle.semantics.specs.Refined.{firingIn, firingsIn}
-use Rattle.semantics.specs.Chosen.{Moves, activates, drops as drops-, defaults, FiresFirst, simplifies, propagates, Undefined}
+use Rattle.semantics.specs.Refined.{Solve}
+use Rattle.semantics.specs.Chosen.{Moves, activates, drops as drops-, defaults, FiresFirst, simplifies, propagates, held, Undefined, HistoryAbove}
+use Rattle.semantics.specs.Chosen.{Stops, undefined, noBody, storeFull, stackAbove, historyAbove, Chosen, done, fails, spent, stops, moves, fires}
 use Rattle.semantics.proofs.Following.{EntryIs, Follows}
-use Rattle.semantics.proofs.Steps.{FewHeads, seen, start-follows, Taken, step-taken}
+use Rattle.semantics.proofs.Steps.{FewHeads, seen, start-follows, Stopped, stopped, crowded, Taken}
+use Rattle.semantics.proofs.Held.{written-length, Held, start-held, step-held}
 
 module _ (t : Table) where
   -- ---- final states
@@ -70,18 +77,34 @@ pub record Derives (t : Table) (σ : State) (c : Counts) (r : Ended) : Type 0 wh
   pub ends : EndsIn t (r .result .number) last
 
 module _ (t : Table) where
-  -- a run that ends at once
-  at-once : (st : State) (T : List Fired) (n p : ℕ) (c : Counts) → EndsIn t n (holds (seen st T)) → Derives t (seen st T) c (endedAs n p c st)
+  -- ---- what document 01 chooses is a derivation of the published relation
+
+  -- one that ends at once
+  at-once : (σ : State) (n p : ℕ) (c : Counts) → EndsIn t n (holds σ) → Derives t σ c (endedAs n p c σ)
   unfolding endedAs firingsIn
-  at-once st T n p c u = record {
+  at-once σ n p c u = record {
     more = 0;
-    last = holds (seen st T);
+    last = holds σ;
     derivation = stays;
     steps = omega arith;
     firings = omega arith;
     store = refl;
     identifiers = refl;
     ends = u;
+  }
+
+  -- one that fails
+  at-fail : (σ τ : State) (c : Counts) → Solve t σ τ → Derives t σ c (endedAs 1 0 (stepped c) τ)
+  unfolding endedAs firingsIn firingIn
+  at-fail σ τ c s = record {
+    more = 1;
+    last = failed τ;
+    derivation = goes (solve s) stays;
+    steps = omega arith;
+    firings = omega arith;
+    store = refl;
+    identifiers = refl;
+    ends = refl;
   }
 
   -- one transition before the others
@@ -101,53 +124,94 @@ module _ (t : Table) where
 
   moves-derive : (σ τ : State) (c : Counts) (r : Ended) → Moves t σ τ → Derives t τ (stepped c) r → Derives t σ c r
   unfolding firingIn
-  moves-derive σ τ c r (activates s) d = before σ τ c (stepped c) r (activate s) refl (omega arith) d
+  moves-derive σ τ c r (activates s) d = before σ τ c (stepped c) r (activate (s .step)) refl (omega arith) d
   moves-derive σ τ c r (drops- s) d = before σ τ c (stepped c) r (drops s) refl (omega arith) d
-  moves-derive σ τ c r (defaults s) d = before σ τ c (stepped c) r (default s) refl (omega arith) d
+  moves-derive σ τ c r (defaults s) d = before σ τ c (stepped c) r (default (s .step)) refl (omega arith) d
 
   fires-derive : (σ τ : State) (c : Counts) (r : Ended) → FiresFirst t σ τ → Derives t τ (firedOnce c) r → Derives t σ c r
   unfolding firingIn
-  fires-derive σ τ c r (simplifies s u) d = before σ τ c (firedOnce c) r (simplify s) refl (omega arith) d
-  fires-derive σ τ c r (propagates s u) d = before σ τ c (firedOnce c) r (propagate s) refl (omega arith) d
+  fires-derive σ τ c r (simplifies s u l) d = before σ τ c (firedOnce c) r (simplify s) refl (omega arith) d
+  fires-derive σ τ c r (propagates s u l) d = before σ τ c (firedOnce c) r (propagate s) refl (omega arith) d
+
+  no : {A : Type 0} {n : ℕ} (m : ℕ) → (n ≡ m → ⊥) → n ≡ m → A
+  no m h e = absurd (h e)
+
+  stops-end : (σ : State) (n p : ℕ) → Stops t σ n p → EndsIn t n (holds σ)
+  stops-end σ n p (undefined u) = (λ e. omega (arith, e), no 0 (λ e. omega (arith, e)), λ e. u)
+  stops-end σ n p (noBody u) = (λ e. omega (arith, e), no 0 (λ e. omega (arith, e)), no 3 (λ e. omega (arith, e)))
+  stops-end σ n p (storeFull u) = (λ e. omega (arith, e), no 0 (λ e. omega (arith, e)), no 3 (λ e. omega (arith, e)))
+  stops-end σ n p (stackAbove u) = (λ e. omega (arith, e), no 0 (λ e. omega (arith, e)), no 3 (λ e. omega (arith, e)))
+  stops-end σ n p (historyAbove u) = (λ e. omega (arith, e), no 0 (λ e. omega (arith, e)), no 3 (λ e. omega (arith, e)))
+
+  pub chosen-derives : {left : ℕ} {c : Counts} {σ : State} {r : Ended} → Chosen t left c σ r → Derives t σ c r
+  chosen-derives (done {c = c} {σ = σ} e) = at-once σ 0 0 c (λ x. omega (arith, x), λ x. e, no 3 (λ x. omega (arith, x)))
+  chosen-derives (fails {c = c} {σ = σ} {τ = τ} s) = at-fail σ τ c s
+  chosen-derives (spent {c = c} {σ = σ} e) = at-once σ 2 0 c (λ x. omega (arith, x), no 0 (λ x. omega (arith, x)), no 3 (λ x. omega (arith, x)))
+  chosen-derives (stops {c = c} {σ = σ} {n = n} {p = p} s) = at-once σ n p c (stops-end σ n p s)
+  chosen-derives (moves {c = c} {σ = σ} {τ = τ} {r = r} s d) = moves-derive σ τ c r s (chosen-derives d)
+  chosen-derives (fires {c = c} {σ = σ} {τ = τ} {r = r} s f d) = fires-derive σ τ c r s (chosen-derives d)
 
 module _ (t : Table) (few : FewHeads t) where
+  -- ---- every run is what document 01 chooses
+
+  -- the equation tells that a run that ends in 2 has an entry left
   abbrev All : ℕ → Counts → State → Ended → Type 0
-  All limit c st r = (T : List Fired) → Follows t st T → Derives t (seen st T) c r
+  All left c st r = r ≡ runFrom t left c st → (T : List Fired) → Follows t st T → Held t (st .store) (st .history) T → Chosen t left c (seen st T) r
+
+  -- both histories have the same length
+  counted : (st : State) (T : List Fired) → Held t (st .store) (st .history) T → length (st .history) ≡ length (held t (st .store) T)
+  counted st T h = ap length h ∙ written-length (held t (st .store) T)
 
   -- what is left of a run behind one step
-  module _ (limit : ℕ) (c : Counts) (st : State) (T : List Fired) (ih : (c : Counts) (st : State) → All limit c st (runFrom t limit c st)) where
-    turn-derives : (o : Outcome) → Taken t st T o → Derives t (seen st T) c (behindStep prunes t limit c st o)
-    unfolding endedAs firingsIn firingIn
-    turn-derives (moves next) u = moves-derive t (seen st T) (seen next (u .0)) c _ (u .2) (ih (stepped c) next (u .0) (u .1))
-    turn-derives (fires next) u = fires-derive t (seen st T) (seen next (u .0)) c _ (u .2) (ih (firedOnce c) next (u .0) (u .1))
-    turn-derives fails u = record {
-      more = 1;
-      last = failed (u .0);
-      derivation = goes (solve (u .1)) stays;
-      steps = omega arith;
-      firings = omega arith;
-      store = sym (u .1 .store);
-      identifiers = ap (λ (n : ℕ). n - 1) (sym (u .1 .next));
-      ends = refl;
-    }
-    turn-derives (stops n p) u = at-once t st T n p c (λ e. omega (arith, e, u .0), λ e. absurd (omega (arith, e, u .0)), u .1)
+  module _ (left : ℕ) (c : Counts) (st : State) (T : List Fired) (ih : (c : Counts) (st : State) → All left c st (runFrom t left c st)) where
+    stop-chosen : (n p : ℕ) → Stopped t (Held t) st T prunes n p → Chosen t (suc left) c (seen st T) (endedAs n p c st)
+    unfolding endedAs
+    stop-chosen n p (stopped s) = stops s
+    stop-chosen n p (crowded m next f l e) =
+        let a : HistoryAbove t (seen st T)
+        = record {
+          τ = seen next (f .T′);
+          fires = f .fires;
+          stack = l;
+          above = omega (arith, leb-false (length (next .history)) historyRoom e, counted next (f .T′) (f .known));
+        } in
+        subst (λ (x : RuleNumber). Chosen t (suc left) c (seen st T) (endedAs 7 (x .0) c st)) (f .ruled) (stops (historyAbove a))
 
-  from-derives : (limit : ℕ) (c : Counts) (st : State) → All limit c st (runFrom t limit c st)
-  from-derives =
-      every-run t All
-      (λ limit c st e T d. at-once t st T 0 0 c (λ x. absurd (omega (arith, x)), λ x. e, λ x. absurd (omega (arith, x))))
-      (λ c st T d. at-once t st T 2 0 c (λ x. absurd (omega (arith, x)), λ x. absurd (omega (arith, x)), λ x. absurd (omega (arith, x))))
-      (λ limit c st e es q ih T d. turn-derives limit c st T ih (stepItem t st e es (e .item)) (step-taken t few st T d e es q (e .item) refl))
+    turn-chosen : (o : Outcome) → Taken t (Held t) st T prunes o → Chosen t (suc left) c (seen st T) (behindStep prunes t left c st o)
+    unfolding endedAs
+    turn-chosen (moves- next) u = moves (u .3) (ih (stepped c) next refl (u .0) (u .1) (u .2))
+    turn-chosen (fires- next) u =
+        let f = u .1 in
+        fires (f .fires) (record {
+          stack = u .2;
+          history = omega (arith, leb-true (length (next .history)) historyRoom (u .3), counted next (f .T′) (f .known));
+        }) (ih (firedOnce c) next refl (f .T′) (f .follows) (f .known))
+    turn-chosen fails- u =
+        let e : endedAs 1 0 (stepped c) (u .0) ≡ endedAs 1 0 (stepped c) st
+        = λ i. endedAs 1 0 (stepped c) (record { stack = []; store = u .1 .store i; history = []; next = u .1 .next i }) in
+        subst (Chosen t (suc left) c (seen st T)) e (fails (u .1))
+    turn-chosen (stops- n p) u = stop-chosen n p u
 
-  -- every run is a derivation from its goal
-  pub run-derives : (goal : List Fact) (limit : ℕ) → Derives t (start goal) noCounts (run t limit (start goal))
+  from-chosen : (left : ℕ) (c : Counts) (st : State) → All left c st (runFrom t left c st)
+  unfolding endedAs
+  from-chosen =
+      every-run t All (λ left c st e q T k h. done e)
+      (λ c st q T k h. spent (λ e. omega (arith, ap (λ (r : Ended). r .result .number) (q ∙ run-empty t c st e 0))))
+      (λ left c st e es q ih z T k h. turn-chosen left c st T ih (stepItem t st e es (e .item)) (step-held t few st T k e es q h (e .item) refl))
+
+  -- every run, with its ending, is what document 01 chooses from its goal
+  pub run-derives : (goal : List Fact) (limit : ℕ) → Chosen t limit noCounts (start goal) (run t limit (start goal))
   unfolding run start
-  run-derives goal limit = from-derives limit noCounts (start goal) [] (start-follows t goal)
+  run-derives goal limit = from-chosen limit noCounts (start goal) refl [] (start-follows t goal) (start-held t)
 
-  -- and, unless the run ends in 7, so is the one whose history keeps all
+  -- and so a derivation of the published relation
+  pub run-published : (goal : List Fact) (limit : ℕ) → Derives t (start goal) noCounts (run t limit (start goal))
+  run-published goal limit = chosen-derives t (run-derives goal limit)
+
+  -- unless the run ends in 7, so is the one whose history keeps all
   pub keep-derives : (goal : List Fact) (limit : ℕ) → (run t limit (start goal) .result .number ≡ 7 → ⊥)
       → Derives t (start goal) noCounts (keepRun t limit (start goal))
-  keep-derives goal limit n = subst (Derives t (start goal) noCounts) (sym (pruning t goal limit n)) (run-derives goal limit)
+  keep-derives goal limit n = subst (Derives t (start goal) noCounts) (sym (pruning t goal limit n)) (run-published goal limit)
 
   -- ---- the endings 0 and 1: a whole derivation
 
@@ -199,10 +263,10 @@ module _ (t : Table) (few : FewHeads t) where
     }
 
   pub run-done : (goal : List Fact) (limit : ℕ) → run t limit (start goal) .result .number ≡ 0 → Done goal (run t limit (start goal))
-  run-done goal limit z = let d = run-derives goal limit in done-is goal (run t limit (start goal)) d z (d .last) refl
+  run-done goal limit z = let d = run-published goal limit in done-is goal (run t limit (start goal)) d z (d .last) refl
 
   pub run-failed : (goal : List Fact) (limit : ℕ) → run t limit (start goal) .result .number ≡ 1 → Failed goal (run t limit (start goal))
-  run-failed goal limit z = let d = run-derives goal limit in failed-is goal (run t limit (start goal)) d z (d .last) refl
+  run-failed goal limit z = let d = run-published goal limit in failed-is goal (run t limit (start goal)) d z (d .last) refl
 
 -- a good table's rules have at most four heads
 pub good-few : (t : List ℕ) → readOf t .verdict ≡ Good → FewHeads (tableOf t)
@@ -210,14 +274,15 @@ good-few t e = every-heads-few t (good-table t e)
 
 -- ---- from bytes: a call of a run that is not refused
 
-pub record CallDerives (t g buffer : List ℕ) (o : RunOutput) : Type 0 where
+pub record CallDerives (t g : List ℕ) (limit : ℕ) (buffer : List ℕ) (o : RunOutput) : Type 0 where
   pub ended : Ended
   pub output : o ≡ outputOf ended buffer
-  pub derives : Derives (tableOf t) (start (goalOf g)) noCounts ended
+  pub derives : Chosen (tableOf t) limit noCounts (start (goalOf g)) ended
 
-pub call-derives : (t g : List ℕ) (limit : ℕ) (buffer : List ℕ) → runOf t g limit buffer .result .number < 16 → CallDerives t g buffer (runOf t g limit buffer)
+pub call-derives : (t g : List ℕ) (limit : ℕ) (buffer : List ℕ) → runOf t g limit buffer .result .number < 16
+    → CallDerives t g limit buffer (runOf t g limit buffer)
 call-derives t g limit buffer =
-    run-cases (λ o. o .result .number < 16 → CallDerives t g buffer o) t g limit buffer (λ n p low high near l. absurd (omega (arith, low, l)))
+    run-cases (λ o. o .result .number < 16 → CallDerives t g limit buffer o) t g limit buffer (λ n p low high near l. absurd (omega (arith, low, l)))
     (λ k l. record {
       ended = run (tableOf t) limit (start (goalOf g));
       output = refl;

@@ -1,7 +1,7 @@
 -- Every step of the definition is a transition of the refined semantics, on the same stack, store and next identifier, with a history that keeps
 -- every firing: a step that is no firing is Activate, Drop or Default, a firing is Simplify or Propagate with the first instance, Fail is Solve.
--- Where the run stops with 3, the first instance that is left has a guard with no value. What the search says of all instances is what Default and
--- `First` ask for.
+-- Where the run stops, it is where document 01 says, with its number and place. What the search says of all instances is what Default and `First`
+-- ask for. K is what else is known of store, history and T: nothing, or that the history is what document 01's holds of T (Held).
 use Prim.Native.Nat.{ℕ, _+_, _-_, _≤_, _<_}
 use native.Mathlib.Omega.{arith}
 use mathlib.Core.Path.{_≡_, refl, sym, _∙_, ap, subst}
@@ -12,9 +12,9 @@ use mathlib.Core.List.{List, [], _∷_, _++_, map, List·Memᴰ, List·Memᴰ·h
 use mathlib.Core.List.{List·Memᴰ·eq-of-singleton, Memᴰ·append-left, Memᴰ·append-right}
 use lib.Dec.{leb, ltb}
 use lib.ListN.{length, drop, getElem?}
-use borrow.Author.Tests.{leb-true, leb-false}
+use borrow.Author.Tests.{leb-true, leb-false, ltb-true, ltb-false}
 use Rattle.numbers.specs.declared.Truth.{Truth}
-use Rattle.numbers.specs.declared.Truth.the-variants.{True, Undefined as Unknown}
+use Rattle.numbers.specs.declared.Truth.the-variants.{True, False, Undefined as Unknown}
 use Rattle.model.specs.declared.FactId.{FactId}
 use Rattle.model.specs.declared.Symbol.{Symbol}
 use Rattle.model.specs.declared.RuleNumber.{RuleNumber}
@@ -28,6 +28,7 @@ use Rattle.model.specs.declared.Binding.{Binding}
 use Rattle.model.specs.declared.HeadPlace.{HeadPlace}
 use Rattle.model.specs.Limits.{mostHeads, storeRoom, stackRoom}
 use Rattle.model.specs.Table.{Rule, Table, heads, ruleAt, places}
+use Rattle.model.specs.Guards.{guardValue}
 use Rattle.model.specs.Search.{Fired, firedOf, inHistory, Found, nothing, undefinedGuard, applies, firstInstance}
 use Rattle.model.specs.Steps.{State, waiting, start, activeEntry, bodyEntries, gone, without, Memory, prunes, activated, advanced, dropped, popIf}
 use Rattle.model.specs.Steps.{isRemoved, fired, Outcome, moves, fires, fails, stops, withinHistory, withinStack, withBody, withFound, atPlace}
@@ -40,10 +41,11 @@ use Rattle.model.proofs.Decoded.{PlaceIn, places-in}
 use Rattle.model.proofs.Places.{places-have}
 use Rattle.semantics.specs.Instances.{Matching, firing}
 use Rattle.semantics.specs.Refined.{Trying, Applies, Fires, Solve}
-use Rattle.semantics.specs.Chosen.{First, Moves, activates, drops, defaults, FiresFirst, simplifies, propagates, Undefined}
+use Rattle.semantics.specs.Chosen.{First, Moves, activates, drops, defaults, FiresFirst, simplifies, propagates, ruleFired, Undefined, StackAbove}
+use Rattle.semantics.specs.Chosen.{Stops, undefined, noBody, storeFull, stackAbove, historyAbove}
 use Rattle.semantics.proofs.Found.{Picked, Verdict}
 use Rattle.semantics.proofs.Occurrence.{index-mem, first-verdict}
-use Rattle.semantics.proofs.Following.{ItemIs, EntryIs, Follows, known-here, known-there, now, store-behind, rising-behind, new-whole, Behind}
+use Rattle.semantics.proofs.Following.{ItemIs, EntryIs, Follows, known-here, known-there, now, now as now-, store-behind, rising-behind, new-whole, Behind}
 use Rattle.semantics.proofs.Following.{pruned-behind, kept-behind, body-entries, activated-follows, dropped-follows, advanced-follows}
 
 -- a rule has at most four heads
@@ -63,39 +65,89 @@ start-follows t goal = record { rising = omega arith; entries = all goal; keeps 
     all [] = tt
     all (f ∷ goal) = (refl, all goal)
 
--- what each outcome of a step comes to
-abbrev pub Taken : Table → State → List Fired → Outcome → Type 0
-Taken t st T (moves next) = (T′ : List Fired) × Follows t next T′ × Moves t (seen st T) (seen next T′)
-Taken t st T (fires next) = (T′ : List Fired) × Follows t next T′ × FiresFirst t (seen st T) (seen next T′)
-Taken t st T fails = (σ : State) × Solve t (seen st T) σ
-Taken t st T (stops n p) = (3 ≤ n) × (n ≡ 3 → Undefined t (seen st T))
+-- ---- what each outcome of a step comes to
+
+abbrev pub Knows : Type 1
+Knows = List Stored → List Fired → List Fired → Type 0
+
+module _ (t : Table) (K : Knows) (st : State) (T : List Fired) where
+  -- a firing of rule n
+  pub record FiredTo (next : State) (n : RuleNumber) : Type 0 where
+    pub T′ : List Fired
+    pub follows : Follows t next T′
+    pub known : K (next .store) (next .history) T′
+    pub fires : FiresFirst t (seen st T) (seen next T′)
+    pub ruled : ruleFired t fires ≡ n
+
+  -- for 7 the history of the memory m has no room; that so document 01's has none needs K
+  pub data Stopped (m : Memory) : ℕ → ℕ → Type 0 where
+    stopped : {n p : ℕ} → Stops t (seen st T) n p → Stopped m n p
+    crowded : (n : RuleNumber) (next : State) → FiredTo next n → length (next .stack) ≤ stackRoom → m .fits (next .history) ≡ false → Stopped m 7 (n .0)
+
+  abbrev pub Taken : Memory → Outcome → Type 0
+  Taken m (moves next) = (T′ : List Fired) × Follows t next T′ × K (next .store) (next .history) T′ × Moves t (seen st T) (seen next T′)
+  Taken m (fires next) = (n : RuleNumber) × FiredTo next n × (length (next .stack) ≤ stackRoom) × (m .fits (next .history) ≡ true)
+  Taken m fails = (σ : State) × Solve t (seen st T) σ
+  Taken m (stops n p) = Stopped m n p
+
+  stops-number : (n p : ℕ) → Stops t (seen st T) n p → 3 ≤ n
+  stops-number n p (undefined u) = omega arith
+  stops-number n p (noBody u) = omega arith
+  stops-number n p (storeFull u) = omega arith
+  stops-number n p (stackAbove u) = omega arith
+  stops-number n p (historyAbove u) = omega arith
+
+  pub stopped-number : (m : Memory) (n p : ℕ) → Stopped m n p → 3 ≤ n
+  stopped-number m n p (stopped u) = stops-number n p u
+  stopped-number m n p (crowded r next f l e) = omega arith
+
+-- nothing else is known
+abbrev pub Anything : Knows
+Anything S history T = Unit {0}
 
 module _ (t : Table) (few : FewHeads t) (st : State) (T : List Fired) (k : Follows t st T) (e : Entry) (es : List Entry) (q : st .stack ≡ e ∷ es) where
   entries : every (EntryIs (st .next)) (e ∷ es)
   entries = subst (every (EntryIs (st .next))) q (k .entries)
 
   -- a history that accounts for each firing that it may have behind it
-  abbrev Recalls : Memory → Type 0
-  Recalls m = (p : HeadPlace) (i : FactId) (facts : List Stored) (b : Binding) (w : Matching (st .store) p (ruleAt t (p .rule)) i facts b)
-      → Behind t st T k p i facts b w
-      (m .after (ruleAt t (p .rule) .removed) (firedOf (p .rule) (idsOf facts)) (idsOf (drop (length (ruleAt t (p .rule) .kept)) facts)) (st .history))
+  pub record Recalls (K : Knows) (m : Memory) : Type 0 where
+    pub now : K (st .store) (st .history) T
+    pub entered : (f : Fact) → K (st .store ++ (record { id = record { 0 = st .next }; fact = f } ∷ [])) (st .history) T
+    pub behind : (p : HeadPlace) (i : FactId) (facts : List Stored) (b : Binding) (w : Matching (st .store) p (ruleAt t (p .rule)) i facts b)
+        → Behind t st T k p i facts b w
+        (m .after (ruleAt t (p .rule) .removed) (firedOf (p .rule) (idsOf facts)) (idsOf (drop (length (ruleAt t (p .rule) .kept)) facts)) (st .history))
+    pub known : (p : HeadPlace) (i : FactId) (facts : List Stored) (b : Binding) (w : Matching (st .store) p (ruleAt t (p .rule)) i facts b)
+        → K (now- t st T k p i facts b w)
+        (m .after (ruleAt t (p .rule) .removed) (firedOf (p .rule) (idsOf facts)) (idsOf (drop (length (ruleAt t (p .rule) .kept)) facts)) (st .history))
+        (firing p facts ∷ T)
 
   -- ---- Activate
 
-  activate-taken : (f : Fact) → e .item ≡ Waiting f → (x : Bool) → Taken t st T (activate st e es f x)
+  top-waits : (f : Fact) → e .item ≡ Waiting f → st .stack ≡ waiting f ∷ es
+  top-waits f w =
+      let s : e .symbol ≡ f .symbol = subst (ItemIs (st .next) (e .symbol)) w (entries .0) in
+      q ∙ ap (λ (x : Entry). x ∷ es) (λ i. record { symbol = s i; item = w i })
+
+  activate-taken : (K : Knows) (m : Memory) → Recalls K m → (f : Fact) → e .item ≡ Waiting f → (x : Bool) → ltb (length (st .store)) storeRoom ≡ x
+      → Taken t K st T m (activate st e es f x)
   unfolding activated
-  activate-taken f w true =
+  activate-taken K m o f w true y =
       let s : e .symbol ≡ f .symbol = subst (ItemIs (st .next) (e .symbol)) w (entries .0) in (
         T,
         activated-follows t st T k e es entries f,
+        o .entered f,
         activates (record {
-          c = f;
-          under = es;
-          top = q ∙ ap (λ (x : Entry). x ∷ es) (λ i. record { symbol = s i; item = w i });
-          stack = ap (λ (x : Symbol). activeEntry x (record { 0 = st .next }) 1 ∷ es) s;
-          store = (λ x m. turn x (List·Memᴰ·append-cases (st .store) m), λ x m. back x (List·Memᴰ·cases-cons m));
-          history = refl;
-          next = refl;
+          step = record {
+            c = f;
+            under = es;
+            top = top-waits f w;
+            stack = ap (λ (x : Symbol). activeEntry x (record { 0 = st .next }) 1 ∷ es) s;
+            store = (λ x m. turn x (List·Memᴰ·append-cases (st .store) m), λ x m. back x (List·Memᴰ·cases-cons m));
+            history = refl;
+            next = refl;
+          };
+          room = ltb-true (length (st .store)) storeRoom y;
+          listed = activated-follows t st T k e es entries f .rising;
         }),
       )
     where
@@ -108,17 +160,19 @@ module _ (t : Table) (few : FewHeads t) (st : State) (T : List Fired) (k : Follo
           → List·Memᴰ x (st .store ++ (record { id = record { 0 = st .next }; fact = f } ∷ []))
       back x (inl m) = Memᴰ·append-right (st .store) (List·Memᴰ·head m)
       back x (inr m) = Memᴰ·append-left (record { id = record { 0 = st .next }; fact = f } ∷ []) m
-  activate-taken f w false = (omega arith, λ x. absurd (omega (arith, x)))
+  activate-taken K m o f w false y =
+      stopped (storeFull (record { c = f; under = es; top = top-waits f w; full = ltb-false (length (st .store)) storeRoom y }))
 
   -- ---- an active fact on top
 
   module _ (i : FactId) (j : ℕ) (top : st .stack ≡ activeEntry (e .symbol) i j ∷ es) (given : i .0 < st .next) where
     -- Drop
-    drop-taken : getElem? (places t (e .symbol)) (j - 1) ≡ none → Taken t st T (moves (dropped st es))
+    drop-taken : (K : Knows) (m : Memory) → Recalls K m → getElem? (places t (e .symbol)) (j - 1) ≡ none → Taken t K st T m (moves (dropped st es))
     unfolding dropped
-    drop-taken o = (
+    drop-taken K m r o = (
       T,
       dropped-follows t st T k e es entries,
+      r .now,
       drops (record { symbol = e .symbol; id = i; j = j; top = top; absent = o; store = refl; history = refl; next = refl }),
     )
 
@@ -165,9 +219,13 @@ module _ (t : Table) (few : FewHeads t) (st : State) (T : List Fired) (k : Follo
       verdict : Verdict (st .history) p r Way [] (firstInstance (st .store) (st .history) p r i)
       verdict = first-verdict (st .store) (st .history) p r (st .next) (k .rising) inside i
 
+      all-passed : Verdict (st .history) p r Way [] nothing → (facts : List Stored) (θ : Binding) → Way facts θ → (List·Memᴰ (firing p facts) T → ⊥)
+          → guardValue θ (r .guards) ≡ False
+      all-passed u facts θ m n = u facts θ m (unknown-here facts θ m n)
+
       none-applies : Verdict (st .history) p r Way [] nothing → (facts : List Stored) (θ : Binding) → Applies t (st .store) T p i facts θ → ⊥
       none-applies u facts θ a =
-          let f = u facts θ (a .enabled .matching) (unknown-here facts θ (a .enabled .matching) (a .fresh)) in
+          let f = all-passed u facts θ (a .enabled .matching) (a .fresh) in
           let g = a .enabled .guard in
           let w : _≡_ {A = ℕ} 0 1 = cc in
           omega arith
@@ -177,19 +235,23 @@ module _ (t : Table) (few : FewHeads t) (st : State) (T : List Fired) (k : Follo
       default-none e = none-applies (subst (Verdict (st .history) p r Way []) e verdict)
 
       -- where it stops with 3, the first instance that is left has a guard with no value
-      stopped : Verdict (st .history) p r Way [] undefinedGuard → Undefined t (seen st T)
-      stopped u = record { tried = tried; facts = u .0; θ = u .1; first = picked-first Unknown (u .0) (u .1) (u .2) }
+      unfoldable left-undefined : Verdict (st .history) p r Way [] undefinedGuard → Undefined t (seen st T)
+      left-undefined u = record { tried = tried; facts = u .0; θ = u .1; first = picked-first Unknown (u .0) (u .1) (u .2) }
 
       pub stopped-first : firstInstance (st .store) (st .history) p r i ≡ undefinedGuard → Undefined t (seen st T)
-      stopped-first e = stopped (subst (Verdict (st .history) p r Way []) e verdict)
+      stopped-first e = left-undefined (subst (Verdict (st .history) p r Way []) e verdict)
 
       -- Default
-      default-taken : Verdict (st .history) p r Way [] nothing → Taken t st T (moves (advanced st e es i j))
+      default-taken : (K : Knows) (m : Memory) → Recalls K m → Verdict (st .history) p r Way [] nothing → Taken t K st T m (moves (advanced st e es i j))
       unfolding advanced
-      default-taken u = (
+      default-taken K m o u = (
         T,
         advanced-follows t st T k e es entries i j given,
-        defaults (record { tried = tried; none = none-applies u; stack = refl; store = refl; history = refl; next = refl }),
+        o .now,
+        defaults (record {
+          step = record { tried = tried; none = none-applies u; stack = refl; store = refl; history = refl; next = refl };
+          passed = all-passed u;
+        }),
       )
 
       -- Simplify and Propagate
@@ -207,7 +269,8 @@ module _ (t : Table) (few : FewHeads t) (st : State) (T : List Fired) (k : Follo
         fire : Fires t (st .store) (now t st T k p i facts b (u .way)) p facts b C
         fire = record { body = body; store = store-behind t st T k p i facts b (u .way) }
 
-        module _ (history : List Fired) (v : Behind t st T k p i facts b (u .way) history) where
+        module _ (K : Knows) (history : List Fired) (v : Behind t st T k p i facts b (u .way) history)
+            (known : K (now t st T k p i facts b (u .way)) history (firing p facts ∷ T)) where
           abbrev behind : List Entry → State
           behind stack = record { stack = stack; store = now t st T k p i facts b (u .way); history = history; next = st .next }
 
@@ -221,12 +284,13 @@ module _ (t : Table) (few : FewHeads t) (st : State) (T : List Fired) (k : Follo
             whole = (new-whole t st T k p i facts b (u .way), k .whole);
           }
 
-          fires-taken : (x : Bool) → isRemoved r (p .head) ≡ x → Taken t st T (fires (behind (C ++ popIf x e es)))
+          fires-taken : (x : Bool) → isRemoved r (p .head) ≡ x → FiredTo t K st T (behind (C ++ popIf x e es)) (p .rule)
           unfolding isRemoved
-          fires-taken true x = (
-            firing p facts ∷ T,
-            behind-follows (C ++ es) (every-append (EntryIs (st .next)) C es C-entries (entries .1)),
-            simplifies (record {
+          fires-taken true x = record {
+            T′ = firing p facts ∷ T;
+            follows = behind-follows (C ++ es) (every-append (EntryIs (st .next)) C es C-entries (entries .1));
+            known = known;
+            fires = simplifies (record {
               tried = tried;
               removed = leb-true (length (r .kept)) (p .head) x;
               facts = facts;
@@ -237,12 +301,14 @@ module _ (t : Table) (few : FewHeads t) (st : State) (T : List Fired) (k : Follo
               stack = refl;
               history = refl;
               next = refl;
-            }) first,
-          )
-          fires-taken false x = (
-            firing p facts ∷ T,
-            behind-follows (C ++ (e ∷ es)) (every-append (EntryIs (st .next)) C (e ∷ es) C-entries entries),
-            propagates (record {
+            }) first (rising-behind t st T k p i facts b (u .way));
+            ruled = refl;
+          }
+          fires-taken false x = record {
+            T′ = firing p facts ∷ T;
+            follows = behind-follows (C ++ (e ∷ es)) (every-append (EntryIs (st .next)) C (e ∷ es) C-entries entries);
+            known = known;
+            fires = propagates (record {
               tried = tried;
               kept = leb-false (length (r .kept)) (p .head) x;
               facts = facts;
@@ -253,57 +319,67 @@ module _ (t : Table) (few : FewHeads t) (st : State) (T : List Fired) (k : Follo
               stack = ap (λ (l : List Entry). C ++ l) (sym q ∙ top);
               history = refl;
               next = refl;
-            }) first,
-          )
+            }) first (rising-behind t st T k p i facts b (u .way));
+            ruled = refl;
+          }
 
       -- with a history that accounts for the firing
-      module _ (m : Memory) (recalls : Recalls m) where
+      module _ (K : Knows) (m : Memory) (recalls : Recalls K m) where
         -- the definition takes the identifiers of the removed heads from those of all heads
         fired-taken : (facts : List Stored) (b : Binding) → Picked (st .history) p r Way [] True facts b → (C : List Entry)
-            → bodyEntries b (r .body) ≡ some C → Taken t st T (fires (fired m st e es p r (idsOf facts) C))
+            → bodyEntries b (r .body) ≡ some C → FiredTo t K st T (fired m st e es p r (idsOf facts) C) (p .rule)
         unfolding fired gone
         fired-taken facts b u C h =
             let f : Fired = firedOf (p .rule) (idsOf facts) in
             let H : List FactId = idsOf (drop (length (r .kept)) facts) in
             subst
-            (λ (g : List FactId). Taken t st T (fires (record {
+            (λ (g : List FactId). FiredTo t K st T (record {
               stack = C ++ popIf (isRemoved r (p .head)) e es;
               store = without g (st .store);
               history = m .after (r .removed) f g (st .history);
               next = st .next;
-            })))
+            }) (p .rule))
             (map-drop (λ (s : Stored). s .id) (length (r .kept)) facts)
-            (fires-taken facts b u C h (m .after (r .removed) f H (st .history)) (recalls p i facts b (u .way)) (isRemoved r (p .head)) refl)
+            (fires-taken facts b u C h K (m .after (r .removed) f H (st .history)) (recalls .behind p i facts b (u .way)) (recalls .known p i facts b (u .way))
+            (isRemoved r (p .head)) refl)
 
-        within-history : (x : Bool) (n : RuleNumber) (s : State) → Taken t st T (fires s) → Taken t st T (withinHistory x n s)
-        within-history true n s u = u
-        within-history false n s u = (omega arith, λ x. absurd (omega (arith, x)))
+        within-history : (x : Bool) (n : RuleNumber) (s : State) → FiredTo t K st T s n → length (s .stack) ≤ stackRoom → m .fits (s .history) ≡ x
+            → Taken t K st T m (withinHistory x n s)
+        within-history true n s u l e = (n, u, l, e)
+        within-history false n s u l e = crowded n s u l e
 
-        within-stack : (x : Bool) (n : RuleNumber) (s : State) → Taken t st T (fires s) → Taken t st T (withinStack m x n s)
-        within-stack true n s u = within-history (m .fits (s .history)) n s u
-        within-stack false n s u = (omega arith, λ x. absurd (omega (arith, x)))
+        within-stack : (x : Bool) (n : RuleNumber) (s : State) → FiredTo t K st T s n → leb (length (s .stack)) stackRoom ≡ x
+            → Taken t K st T m (withinStack m x n s)
+        within-stack true n s u e = within-history (m .fits (s .history)) n s u (leb-true (length (s .stack)) stackRoom e) refl
+        within-stack false n s u e =
+            let a : StackAbove t (seen st T)
+            = record { τ = seen s (u .T′); fires = u .fires; above = leb-false (length (s .stack)) stackRoom e } in
+            subst (λ (x : RuleNumber). Stopped t K st T m 6 (x .0)) (u .ruled) (stopped (stackAbove a))
 
         body-taken : (facts : List Stored) (b : Binding) → Picked (st .history) p r Way [] True facts b → (c : Option (List Entry))
-            → bodyEntries b (r .body) ≡ c → Taken t st T (withBody m t st e es p (idsOf facts) c)
-        body-taken facts b u none h = (omega arith, λ x. absurd (omega (arith, x)))
+            → bodyEntries b (r .body) ≡ c → Taken t K st T m (withBody m t st e es p (idsOf facts) c)
+        body-taken facts b u none h =
+            stopped (noBody (record { tried = tried; facts = facts; θ = b; first = picked-first True facts b u; body = h }))
         body-taken facts b u (some C) h =
             let s : State = fired m st e es p r (idsOf facts) C in
-            within-stack (leb (length (s .stack)) stackRoom) (p .rule) s (fired-taken facts b u C h)
+            within-stack (leb (length (s .stack)) stackRoom) (p .rule) s (fired-taken facts b u C h) refl
 
-        found-taken : (f : Found) → Verdict (st .history) p r Way [] f → Taken t st T (withFound m t st e es i j p f)
-        found-taken nothing u = default-taken u
-        found-taken undefinedGuard u = (omega arith, λ x. stopped u)
+        found-taken : (f : Found) → Verdict (st .history) p r Way [] f → Taken t K st T m (withFound m t st e es i j p f)
+        unfolding left-undefined
+        found-taken nothing u = default-taken K m recalls u
+        found-taken undefinedGuard u = stopped (undefined (left-undefined u))
         found-taken (applies chosen b) u =
-            subst (λ (is : List FactId). Taken t st T (withBody m t st e es p is (bodyEntries b (r .body)))) (sym (u .2))
+            subst (λ (is : List FactId). Taken t K st T m (withBody m t st e es p is (bodyEntries b (r .body)))) (sym (u .2))
             (body-taken (u .0) b (u .1) (bodyEntries b (r .body)) refl)
 
-    place-taken : (m : Memory) → Recalls m → (o : Option HeadPlace) → getElem? (places t (e .symbol)) (j - 1) ≡ o → Taken t st T (atPlace m t st e es i j o)
-    place-taken m w none o = drop-taken o
-    place-taken m w (some p) o = found-taken p o m w (firstInstance (st .store) (st .history) p (ruleAt t (p .rule)) i) (verdict p o)
+    place-taken : (K : Knows) (m : Memory) → Recalls K m → (o : Option HeadPlace) → getElem? (places t (e .symbol)) (j - 1) ≡ o
+        → Taken t K st T m (atPlace m t st e es i j o)
+    place-taken K m w none o = drop-taken K m w o
+    place-taken K m w (some p) o = found-taken p o K m w (firstInstance (st .store) (st .history) p (ruleAt t (p .rule)) i) (verdict p o)
 
   -- ---- the top entry decides
 
-  fail-taken : e .item ≡ Fail → Taken t st T fails
+  fail-taken : e .item ≡ Fail → (σ : State) × Solve t (seen st T) σ
   fail-taken w = (
     record { stack = es; store = st .store; history = T; next = st .next },
     record { c = e; top = q; builtin = w; store = refl; history = refl; next = refl },
@@ -316,16 +392,26 @@ module _ (t : Table) (few : FewHeads t) (st : State) (T : List Fired) (k : Follo
     active-given : i .0 < st .next
     active-given = subst (ItemIs (st .next) (e .symbol)) w (entries .0)
 
-  item-taken : (m : Memory) → Recalls m → (it : Item) → e .item ≡ it → Taken t st T (stepWith m t st e es it)
+  pub item-taken : (K : Knows) (m : Memory) → Recalls K m → (it : Item) → e .item ≡ it → Taken t K st T m (stepWith m t st e es it)
   unfolding stepWith
-  item-taken m r (Waiting f) w = activate-taken f w (ltb (length (st .store)) storeRoom)
-  item-taken m r (Active i j) w =
-      place-taken i (j .0) (active-top i j w) (active-given i j w) m r (getElem? (places t (e .symbol)) (j .0 - 1)) refl
-  item-taken m r Fail w = fail-taken w
+  item-taken K m r (Waiting f) w = activate-taken K m r f w (ltb (length (st .store)) storeRoom) refl
+  item-taken K m r (Active i j) w =
+      place-taken i (j .0) (active-top i j w) (active-given i j w) K m r (getElem? (places t (e .symbol)) (j .0 - 1)) refl
+  item-taken K m r Fail w = fail-taken w
 
-  pub step-taken : (it : Item) → e .item ≡ it → Taken t st T (stepItem t st e es it)
-  step-taken = item-taken prunes (λ p i facts b w. pruned-behind t st T k p i facts b w (ruleAt t (p .rule) .removed) refl)
+  pub step-taken : (it : Item) → e .item ≡ it → Taken t Anything st T prunes (stepItem t st e es it)
+  step-taken = item-taken Anything prunes (record {
+    now = tt;
+    entered = λ f. tt;
+    behind = λ p i facts b w. pruned-behind t st T k p i facts b w (ruleAt t (p .rule) .removed) refl;
+    known = λ p i facts b w. tt;
+  })
 
   -- every step of the run whose history keeps all is a transition too
-  pub keep-taken : (it : Item) → e .item ≡ it → Taken t st T (stepWith keepsAll t st e es it)
-  keep-taken = item-taken keepsAll (λ p i facts b w. kept-behind t st T k p i facts b w (ruleAt t (p .rule) .removed) refl)
+  pub keep-taken : (it : Item) → e .item ≡ it → Taken t Anything st T keepsAll (stepWith keepsAll t st e es it)
+  keep-taken = item-taken Anything keepsAll (record {
+    now = tt;
+    entered = λ f. tt;
+    behind = λ p i facts b w. kept-behind t st T k p i facts b w (ruleAt t (p .rule) .removed) refl;
+    known = λ p i facts b w. tt;
+  })
