@@ -26,23 +26,23 @@ module _ (s s′ : Symbol) (i i′ : FactId) (j j′ : ℕ) (es es′ : List Ent
   first : activeEntry s i j ≡ activeEntry s′ i′ j′
   first = cc
 
-  same-symbol : s ≡ s′
+  pub same-symbol : s ≡ s′
   same-symbol = ap (λ (x : Entry). x .symbol) first
 
   item : Active i (record { 0 = j }) ≡ Active i′ (record { 0 = j′ })
   item = ap (λ (x : Entry). x .item) first
 
-  same-id : i ≡ i′
+  pub same-id : i ≡ i′
   same-id = cc item
 
-  same-j : j ≡ j′
+  pub same-j : j ≡ j′
   same-j = let o : _≡_ {A = Occurrence} (record { 0 = j }) (record { 0 = j′ }) = cc item in ap (λ (x : Occurrence). x .0) o
 
 module _ (t : Table) {A : List Entry} (a a′ : Trying t A) where
-  tops : activeEntry (a .symbol) (a .id) (a .j) ∷ a .under ≡ activeEntry (a′ .symbol) (a′ .id) (a′ .j) ∷ a′ .under
+  pub tops : activeEntry (a .symbol) (a .id) (a .j) ∷ a .under ≡ activeEntry (a′ .symbol) (a′ .id) (a′ .j) ∷ a′ .under
   tops = sym (a .top) ∙ a′ .top
 
-  ids : a .id ≡ a′ .id
+  pub ids : a .id ≡ a′ .id
   ids = same-id (a .symbol) (a′ .symbol) (a .id) (a′ .id) (a .j) (a′ .j) (a .under) (a′ .under) tops
 
   at : occurrence t (a .symbol) (a .j) ≡ occurrence t (a′ .symbol) (a′ .j)
@@ -51,7 +51,7 @@ module _ (t : Table) {A : List Entry} (a a′ : Trying t A) where
       let n = same-j (a .symbol) (a′ .symbol) (a .id) (a′ .id) (a .j) (a′ .j) (a .under) (a′ .under) tops in
       ap (λ (x : Symbol). occurrence t x (a .j)) s ∙ ap (occurrence t (a′ .symbol)) n
 
-  same-place : a .place ≡ a′ .place
+  pub same-place : a .place ≡ a′ .place
   same-place = let e : some (a .place) ≡ some (a′ .place) = sym (a .occurs) ∙ at ∙ a′ .occurs in cc e
 
   -- an instance that applies to the one applies to the other

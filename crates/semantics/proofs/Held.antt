@@ -247,7 +247,7 @@ module _ (t : Table) (few : FewHeads t) (st : State) (T : List Fired) (k : Follo
     (h : Held t (st .store) (st .history) T) where
   pub step-held : (it : Item) → e .item ≡ it → Taken t (Held t) st T prunes (stepItem t st e es it)
   step-held = item-taken t few st T k e es q (Held t) prunes (record {
-    now = h;
+    here = h;
     entered = entered-held t few st T k h;
     behind = λ p i facts b w. pruned-behind t st T k p i facts b w (ruleAt t (p .rule) .removed) refl;
     known = λ p i facts b w. behind-held t few st T k h p i facts b w (ruleAt t (p .rule) .removed) refl;

@@ -7,6 +7,7 @@ pub mod Substitutions
 pub mod Bound
 pub mod Sources
 pub mod Following
+pub mod First
 pub mod Steps
 pub mod Held
 pub mod Runs

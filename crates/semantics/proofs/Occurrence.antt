@@ -56,7 +56,7 @@ index-head θ (h ∷ hs) (x ∷ ss) (suc n) s m e = index-head θ hs ss n s (m .
 
 -- ---- the facts of a store whose identifiers rise are told by these
 
-above : (lo hi : ℕ) (ss : List Stored) (x : Stored) → Rising lo hi ss → List·Memᴰ x ss → lo ≤ x .id .0
+pub above : (lo hi : ℕ) (ss : List Stored) (x : Stored) → Rising lo hi ss → List·Memᴰ x ss → lo ≤ x .id .0
 above lo hi ss x r m = every-mem _ ss (rising-within lo hi ss r) x m .0
 
 pub same-stored : (lo hi : ℕ) (ss : List Stored) (x y : Stored) → Rising lo hi ss → List·Memᴰ x ss → List·Memᴰ y ss → x .id .0 ≡ y .id .0 → x ≡ y

@@ -45,7 +45,7 @@ use Rattle.semantics.specs.Chosen.{First, Moves, activates, drops, defau
 use Rattle.semantics.specs.Chosen.{Stops, undefined, noBody, storeFull, stackAbove, historyAbove}
 use Rattle.semantics.proofs.Found.{Picked, Verdict}
 use Rattle.semantics.proofs.Occurrence.{index-mem, first-verdict}
-use Rattle.semantics.proofs.Following.{ItemIs, EntryIs, Follows, known-here, known-there, now, now as now-, store-behind, rising-behind, new-whole, Behind}
+use Rattle.semantics.proofs.Following.{ItemIs, EntryIs, Follows, known-here, known-there, now, store-behind, rising-behind, new-whole, Behind}
 use Rattle.semantics.proofs.Following.{pruned-behind, kept-behind, body-entries, activated-follows, dropped-follows, advanced-follows}
 
 -- a rule has at most four heads
@@ -111,13 +111,13 @@ module _ (t : Table) (few : FewHeads t) (st : State) (T : List Fired) (k : Follo
 
   -- a history that accounts for each firing that it may have behind it
   pub record Recalls (K : Knows) (m : Memory) : Type 0 where
-    pub now : K (st .store) (st .history) T
+    pub here : K (st .store) (st .history) T
     pub entered : (f : Fact) → K (st .store ++ (record { id = record { 0 = st .next }; fact = f } ∷ [])) (st .history) T
     pub behind : (p : HeadPlace) (i : FactId) (facts : List Stored) (b : Binding) (w : Matching (st .store) p (ruleAt t (p .rule)) i facts b)
         → Behind t st T k p i facts b w
         (m .after (ruleAt t (p .rule) .removed) (firedOf (p .rule) (idsOf facts)) (idsOf (drop (length (ruleAt t (p .rule) .kept)) facts)) (st .history))
     pub known : (p : HeadPlace) (i : FactId) (facts : List Stored) (b : Binding) (w : Matching (st .store) p (ruleAt t (p .rule)) i facts b)
-        → K (now- t st T k p i facts b w)
+        → K (now t st T k p i facts b w)
         (m .after (ruleAt t (p .rule) .removed) (firedOf (p .rule) (idsOf facts)) (idsOf (drop (length (ruleAt t (p .rule) .kept)) facts)) (st .history))
         (firing p facts ∷ T)
 
@@ -172,7 +172,7 @@ module _ (t : Table) (few : FewHeads t) (st : State) (T : List Fired) (k : Follo
     drop-taken K m r o = (
       T,
       dropped-follows t st T k e es entries,
-      r .now,
+      r .here,
       drops (record { symbol = e .symbol; id = i; j = j; top = top; absent = o; store = refl; history = refl; next = refl }),
     )
 
@@ -247,7 +247,7 @@ module _ (t : Table) (few : FewHeads t) (st : State) (T : List Fired) (k : Follo
       default-taken K m o u = (
         T,
         advanced-follows t st T k e es entries i j given,
-        o .now,
+        o .here,
         defaults (record {
           step = record { tried = tried; none = none-applies u; stack = refl; store = refl; history = refl; next = refl };
           passed = all-passed u;
@@ -401,7 +401,7 @@ module _ (t : Table) (few : FewHeads t) (st : State) (T : List Fired) (k : Follo
 
   pub step-taken : (it : Item) → e .item ≡ it → Taken t Anything st T prunes (stepItem t st e es it)
   step-taken = item-taken Anything prunes (record {
-    now = tt;
+    here = tt;
     entered = λ f. tt;
     behind = λ p i facts b w. pruned-behind t st T k p i facts b w (ruleAt t (p .rule) .removed) refl;
     known = λ p i facts b w. tt;
@@ -410,7 +410,7 @@ module _ (t : Table) (few : FewHeads t) (st : State) (T : List Fired) (k : Follo
   -- every step of the run whose history keeps all is a transition too
   pub keep-taken : (it : Item) → e .item ≡ it → Taken t Anything st T keepsAll (stepWith keepsAll t st e es it)
   keep-taken = item-taken Anything keepsAll (record {
-    now = tt;
+    here = tt;
     entered = λ f. tt;
     behind = λ p i facts b w. kept-behind t st T k p i facts b w (ruleAt t (p .rule) .removed) refl;
     known = λ p i facts b w. tt;
