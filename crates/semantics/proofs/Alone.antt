@@ -42,7 +42,7 @@ module _ (t : Table) {A : List Entry} (a a′ : Trying t A) where
   pub tops : activeEntry (a .symbol) (a .id) (a .j) ∷ a .under ≡ activeEntry (a′ .symbol) (a′ .id) (a′ .j) ∷ a′ .under
   tops = sym (a .top) ∙ a′ .top
 
-  pub ids : a .id ≡ a′ .id
+  ids : a .id ≡ a′ .id
   ids = same-id (a .symbol) (a′ .symbol) (a .id) (a′ .id) (a .j) (a′ .j) (a .under) (a′ .under) tops
 
   at : occurrence t (a .symbol) (a .j) ≡ occurrence t (a′ .symbol) (a′ .j)
@@ -54,11 +54,14 @@ module _ (t : Table) {A : List Entry} (a a′ : Trying t A) where
   pub same-place : a .place ≡ a′ .place
   same-place = let e : some (a .place) ≡ some (a′ .place) = sym (a .occurs) ∙ at ∙ a′ .occurs in cc e
 
+  -- what holds of the one holds of the other
+  pub same-try : (P : HeadPlace → FactId → Type 0) → P (a .place) (a .id) → P (a′ .place) (a′ .id)
+  same-try P u = subst (P (a′ .place)) ids (subst (λ (p : HeadPlace). P p (a .id)) same-place u)
+
   -- an instance that applies to the one applies to the other
   pub same-applies : (S : List Stored) (T : List Fired) (facts : List Stored) (θ : Binding) → Applies t S T (a .place) (a .id) facts θ
       → Applies t S T (a′ .place) (a′ .id) facts θ
-  same-applies S T facts θ u =
-      subst (λ (i : FactId). Applies t S T (a′ .place) i facts θ) ids (subst (λ (p : HeadPlace). Applies t S T p (a .id) facts θ) same-place u)
+  same-applies S T facts θ u = same-try (λ (p : HeadPlace) (i : FactId). Applies t S T p i facts θ) u
 
 module _ (t : Table) (σ τ τ′ : State) where
   pub default-not-simplify : Default t σ τ → Simplify t σ τ′ → ⊥

@@ -30,7 +30,7 @@ use Rattle.model.proofs.Kept.{Rising}
 use Rattle.semantics.specs.Instances.{PartOf, HeadsAre, Matching, firing, Before}
 use Rattle.semantics.specs.Refined.{Trying}
 use Rattle.semantics.specs.Chosen.{Listed, First}
-use Rattle.semantics.proofs.Alone.{ids, same-place}
+use Rattle.semantics.proofs.Alone.{same-try}
 use Rattle.semantics.proofs.Match.{expression-same, guard-same}
 use Rattle.semantics.proofs.Occurrence.{same-stored}
 use Rattle.semantics.proofs.Following.{heads-count}
@@ -140,7 +140,5 @@ module _ (t : Table) (σ : State) where
   pub one-first : Listed σ → (a a′ : Trying t (σ .stack)) (g g′ : Truth) (facts facts′ : List Stored) (θ θ′ : Binding) → First t σ a g facts θ
       → First t σ a′ g′ facts′ θ′ → (g ≡ False → ⊥) → (g′ ≡ False → ⊥) → SameFirst g g′ facts facts′ θ θ′
   one-first listed a a′ g g′ facts facts′ θ θ′ u u′ n n′ =
-      let v : At (a′ .place) (a′ .id) g facts θ
-      = subst (λ (i : FactId). At (a′ .place) i g facts θ) (ids t a a′)
-      (subst (λ (p : HeadPlace). At p (a .id) g facts θ) (same-place t a a′) (first-at a g facts θ u)) in
+      let v : At (a′ .place) (a′ .id) g facts θ = same-try t a a′ (λ (p : HeadPlace) (i : FactId). At p i g facts θ) (first-at a g facts θ u) in
       at-same listed (a′ .place) (a′ .id) g g′ facts facts′ θ θ′ v (first-at a′ g′ facts′ θ′ u′) n n′

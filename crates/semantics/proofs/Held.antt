@@ -32,17 +32,21 @@ use Rattle.semantics.proofs.Following.{among-mem, ids-mem, Whole, Follo
 use Rattle.semantics.proofs.Steps.{FewHeads, Knows, Taken, item-taken}
 
 -- oldest first, each with four places
-abbrev written : List Fired → List Fired
+abbrev pub written : List Fired → List Fired
 written [] = []
 written (u ∷ us) = written us ++ (firedOf (u .rule) (u .ids) ∷ [])
 
-pub written-length : (us : List Fired) → length (written us) ≡ length us
+written-length : (us : List Fired) → length (written us) ≡ length us
 written-length [] = refl
 written-length (u ∷ us) = simp length-append (omega (arith, written-length us))
 
 -- store, history and T: the history is what document 01's holds of T
 abbrev pub Held : Table → Knows
 Held t S history T = history ≡ written (held t S T)
+
+-- so both have the same length
+pub held-length : (t : Table) (S : List Stored) (history T : List Fired) → Held t S history T → length history ≡ length (held t S T)
+held-length t S history T h = ap length h ∙ written-length (held t S T)
 
 -- ---- lists
 

@@ -8,6 +8,8 @@ pub mod Bound
 pub mod Sources
 pub mod Following
 pub mod First
+pub mod Only
+pub mod Ends
 pub mod Steps
 pub mod Held
 pub mod Runs

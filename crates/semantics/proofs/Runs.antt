@@ -1,6 +1,7 @@
--- Every run, with its ending, is what document 01 chooses from its goal: step by step, by `step-held`. What document 01 chooses is a derivation of
--- the refined semantics: as many transitions as steps, as many of them firings as firings, with the store and the next identifier of the result. One
--- that ends in 0 ends in a state with an empty stack, from which there is no transition; one that ends in 1 in a failed state.
+-- Every run, with its ending, is what document 01 chooses from its goal: step by step, by `step-held`. Since document 01 leaves no choice (Ends), it
+-- is the only one: whatever is derived from the goal ends as the run does. What document 01 chooses is a derivation of the refined semantics: as many
+-- transitions as steps, as many of them firings as firings, with the store and the next identifier of the result. One that ends in 0 ends in a state
+-- with an empty stack, from which there is no transition; one that ends in 1 in a failed state.
 use Prim.Native.Nat.{ℕ, suc, _+_, _-_, _<_}
 use native.Mathlib.Omega.{arith}
 use mathlib.Core.Path.{_≡_, refl, sym, _∙_, ap, subst}
@@ -34,7 +35,8 @@ use Rattle.semantics.specs.Chosen.{Moves, activates, drops as drops-, de
 use Rattle.semantics.specs.Chosen.{Stops, undefined, noBody, storeFull, stackAbove, historyAbove, Chosen, done, fails, spent, stops, moves, fires}
 use Rattle.semantics.proofs.Following.{EntryIs, Follows}
 use Rattle.semantics.proofs.Steps.{FewHeads, seen, start-follows, Stopped, stopped, crowded, Taken}
-use Rattle.semantics.proofs.Held.{written-length, Held, start-held, step-held}
+use Rattle.semantics.proofs.Held.{Held, held-length, start-held, step-held}
+use Rattle.semantics.proofs.Ends.{one-end}
 
 module _ (t : Table) where
   -- ---- final states
@@ -158,10 +160,6 @@ module _ (t : Table) (few : FewHeads t) where
   abbrev All : ℕ → Counts → State → Ended → Type 0
   All left c st r = r ≡ runFrom t left c st → (T : List Fired) → Follows t st T → Held t (st .store) (st .history) T → Chosen t left c (seen st T) r
 
-  -- both histories have the same length
-  counted : (st : State) (T : List Fired) → Held t (st .store) (st .history) T → length (st .history) ≡ length (held t (st .store) T)
-  counted st T h = ap length h ∙ written-length (held t (st .store) T)
-
   -- what is left of a run behind one step
   module _ (left : ℕ) (c : Counts) (st : State) (T : List Fired) (ih : (c : Counts) (st : State) → All left c st (runFrom t left c st)) where
     stop-chosen : (n p : ℕ) → Stopped t (Held t) st T prunes n p → Chosen t (suc left) c (seen st T) (endedAs n p c st)
@@ -173,7 +171,7 @@ module _ (t : Table) (few : FewHeads t) where
           τ = seen next (f .T′);
           fires = f .fires;
           stack = l;
-          above = omega (arith, leb-false (length (next .history)) historyRoom e, counted next (f .T′) (f .known));
+          above = omega (arith, leb-false (length (next .history)) historyRoom e, held-length t (next .store) (next .history) (f .T′) (f .known));
         } in
         subst (λ (x : RuleNumber). Chosen t (suc left) c (seen st T) (endedAs 7 (x .0) c st)) (f .ruled) (stops (historyAbove a))
 
@@ -184,7 +182,7 @@ module _ (t : Table) (few : FewHeads t) where
         let f = u .1 in
         fires (f .fires) (record {
           stack = u .2;
-          history = omega (arith, leb-true (length (next .history)) historyRoom (u .3), counted next (f .T′) (f .known));
+          history = omega (arith, leb-true (length (next .history)) historyRoom (u .3), held-length t (next .store) (next .history) (f .T′) (f .known));
         }) (ih (firedOnce c) next refl (f .T′) (f .follows) (f .known))
     turn-chosen fails- u =
         let e : endedAs 1 0 (stepped c) (u .0) ≡ endedAs 1 0 (stepped c) st
@@ -204,7 +202,12 @@ module _ (t : Table) (few : FewHeads t) where
   unfolding run start
   run-derives goal limit = from-chosen limit noCounts (start goal) refl [] (start-follows t goal) (start-held t)
 
-  -- and so a derivation of the published relation
+  -- and nothing else is: what document 01 chooses from the goal ends as the run does
+  pub run-only : (goal : List Fact) (limit : ℕ) (r : Ended) → Chosen t limit noCounts (start goal) r → r ≡ run t limit (start goal)
+  run-only goal limit r d =
+      one-end t limit noCounts (start goal) r (run t limit (start goal)) (start-follows t goal .rising) d (run-derives goal limit)
+
+  -- the run is a derivation of the published relation
   pub run-published : (goal : List Fact) (limit : ℕ) → Derives t (start goal) noCounts (run t limit (start goal))
   run-published goal limit = chosen-derives t (run-derives goal limit)
 
@@ -278,6 +281,7 @@ pub record CallDerives (t g : List ℕ) (limit : ℕ) (buffer : List ℕ) (o : R
   pub ended : Ended
   pub output : o ≡ outputOf ended buffer
   pub derives : Chosen (tableOf t) limit noCounts (start (goalOf g)) ended
+  pub only : (r : Ended) → Chosen (tableOf t) limit noCounts (start (goalOf g)) r → r ≡ ended
 
 pub call-derives : (t g : List ℕ) (limit : ℕ) (buffer : List ℕ) → runOf t g limit buffer .result .number < 16
     → CallDerives t g limit buffer (runOf t g limit buffer)
@@ -287,4 +291,5 @@ call-derives t g limit buffer =
       ended = run (tableOf t) limit (start (goalOf g));
       output = refl;
       derives = run-derives (tableOf t) (good-few t (k .table)) (goalOf g) limit;
+      only = run-only (tableOf t) (good-few t (k .table)) (goalOf g) limit;
     })
