@@ -1,9 +1,7 @@
 -- What document 01 chooses from a state ends in one way: two derivations with the same steps left, the same counts and the same state, whose store is
 -- listed by rising identifier, end as the same. For each begins with a turn, and the state has one (Only); every turn leaves a store so listed.
 use Prim.Native.Nat.{ℕ, zero, suc}
-use native.Mathlib.Omega.{arith}
 use mathlib.Core.Path.{_≡_, refl, sym, _∙_, subst}
-use mathlib.Core.Logic.{_⊎_, inl, inr}
 use mathlib.Core.List.{List, []}
 use Rattle.model.specs.declared.Stored.{Stored}
 use Rattle.model.specs.Table.{Table}
@@ -52,22 +50,16 @@ module _ (t : Table) where
   Rest left c σ fails- r = r ≡ endedAs 1 0 (stepped c) σ
   Rest left c σ (stops- n p) r = r ≡ endedAs n p c σ
 
-  abbrev View : ℕ → Counts → State → Ended → Type 0
-  View zero c σ r = ((σ .stack ≡ []) × (r ≡ endedAs 0 0 c σ)) ⊎ ((σ .stack ≡ [] → ⊥) × (r ≡ endedAs 2 0 c σ))
-  View (suc left) c σ r = (x : Turn t σ) × Rest left c σ (outcomeOf t σ x) r
-
   after-fail : (c : Counts) (σ τ : State) → Solve t σ τ → endedAs 1 0 c τ ≡ endedAs 1 0 c σ
   unfolding endedAs
   after-fail c σ τ s = λ i. endedAs 1 0 c (record { stack = []; store = s .store i; history = []; next = s .next i })
 
-  view : {left : ℕ} {c : Counts} {σ : State} {r : Ended} → Chosen t left c σ r → View left c σ r
-  view (done {left = zero} e) = inl (e, refl)
-  view (done {left = suc left} e) = (ended e, refl)
-  view (fails {c = c} {σ = σ} {τ = τ} s) = (failed τ s, after-fail (stepped c) σ τ s)
-  view (spent e) = inr (e, refl)
-  view (stops {n = n} {p = p} s) = (stopped n p s, refl)
-  view (moves {τ = τ} s d) = (moved τ s, d)
-  view (fires {τ = τ} s r d) = (fired τ s r, d)
+  turn : {left : ℕ} {c : Counts} {σ : State} {r : Ended} → Chosen t (suc left) c σ r → (x : Turn t σ) × Rest left c σ (outcomeOf t σ x) r
+  turn (done e) = (ended e, refl)
+  turn (fails {c = c} {σ = σ} {τ = τ} s) = (failed τ s, after-fail (stepped c) σ τ s)
+  turn (stops {n = n} {p = p} s) = (stopped n p s, refl)
+  turn (moves {τ = τ} s d) = (moved τ s, d)
+  turn (fires {τ = τ} s r d) = (fired τ s r, d)
 
   -- ---- one end
 
@@ -79,16 +71,17 @@ module _ (t : Table) where
       rest-one fails- l d d′ = d ∙ sym d′
       rest-one (stops- n p) l d d′ = d ∙ sym d′
 
+  -- with no step left
+  one-spent : {c : Counts} {σ : State} {r r′ : Ended} → Chosen t 0 c σ r → Chosen t 0 c σ r′ → r ≡ r′
+  one-spent (done e) (done f) = refl
+  one-spent (done e) (spent f) = absurd (f e)
+  one-spent (spent e) (done f) = absurd (e f)
+  one-spent (spent e) (spent f) = refl
+
   pub one-end : (left : ℕ) (c : Counts) (σ : State) (r r′ : Ended) → Listed σ → Chosen t left c σ r → Chosen t left c σ r′ → r ≡ r′
-  one-end zero c σ r r′ l d d′ = go (view d) (view d′)
-    where
-      go : View 0 c σ r → View 0 c σ r′ → r ≡ r′
-      go (inl e) (inl f) = e .1 ∙ sym (f .1)
-      go (inl e) (inr f) = absurd (f .0 (e .0))
-      go (inr e) (inl f) = absurd (e .0 (f .0))
-      go (inr e) (inr f) = e .1 ∙ sym (f .1)
+  one-end zero c σ r r′ l d d′ = one-spent d d′
   one-end (suc left) c σ r r′ l d d′ =
-      let x = view d in
-      let y = view d′ in
+      let x = turn d in
+      let y = turn d′ in
       rest-one left c σ r r′ (λ c σ. one-end left c σ r r′) (outcomeOf t σ (x .0)) (turn-listed σ l (x .0)) (x .1)
       (subst (λ (o : Outcome). Rest left c σ o r′) (sym (one-turn t σ l (x .0) (y .0))) (y .1))

@@ -348,9 +348,6 @@ module _ (t : Table) (σ : State) where
     abbrev Alike : ℕ → ℕ → ℕ → ℕ → Type 0
     Alike n p n′ p′ = (n ≡ n′) × (p ≡ p′)
 
-    ruled : (a a′ : Trying t (σ .stack)) → a .place .rule .0 ≡ a′ .place .rule .0
-    ruled a a′ = ap (λ (p : HeadPlace). p .rule .0) (same-place t a a′)
-
     fired-ruled : (τ τ′ : State) (f : FiresFirst t σ τ) (f′ : FiresFirst t σ τ′) → ruleFired t f .0 ≡ ruleFired t f′ .0
     fired-ruled τ τ′ f f′ = ap (λ (n : RuleNumber). n .0) (fires-rule t σ τ τ′ f f′)
 
@@ -358,13 +355,13 @@ module _ (t : Table) (σ : State) where
     two-above u v = omega (arith, u .above, v .stack, stack-as-long (u .τ) (v .τ) (u .fires) (v .fires))
 
     stops-one : (n p n′ p′ : ℕ) → Stops t σ n p → Stops t σ n′ p′ → Alike n p n′ p′
-    stops-one n p n′ p′ (undefined u) (undefined v) = (refl, ruled (u .tried) (v .tried))
+    stops-one n p n′ p′ (undefined u) (undefined v) = (refl, rw (same-place t (u .tried) (v .tried)))
     stops-one n p n′ p′ (undefined u) (noBody v) = absurd (undefined-not-true u (body-tries v))
     stops-one n p n′ p′ (undefined u) (storeFull v) = absurd (full-not-tries Unknown v (undefined-tries u))
     stops-one n p n′ p′ (undefined u) (stackAbove v) = absurd (undefined-not-true u (fires-tries (v .fires)))
     stops-one n p n′ p′ (undefined u) (historyAbove v) = absurd (undefined-not-true u (fires-tries (v .fires)))
     stops-one n p n′ p′ (noBody u) (undefined v) = absurd (undefined-not-true v (body-tries u))
-    stops-one n p n′ p′ (noBody u) (noBody v) = (refl, ruled (u .tried) (v .tried))
+    stops-one n p n′ p′ (noBody u) (noBody v) = (refl, rw (same-place t (u .tried) (v .tried)))
     stops-one n p n′ p′ (noBody u) (storeFull v) = absurd (full-not-tries True v (body-tries u))
     stops-one n p n′ p′ (noBody u) (stackAbove v) = absurd (body-not-fires (v .τ) u (v .fires))
     stops-one n p n′ p′ (noBody u) (historyAbove v) = absurd (body-not-fires (v .τ) u (v .fires))
