@@ -1,0 +1,22 @@
+-- Reading an answer back: "17 stored fact: identifier (4), symbol, four arguments".
+use Prim.Native.Nat.{ℕ, zero, suc, _+_}
+use mathlib.Core.List.{List, [], _∷_}
+use Rattle.model.specs.declared.Stored.{Stored}
+use Rattle.model.specs.Table.{symbolAt}
+use Rattle.wire.specs.Wire.{u32At, i32At}
+
+-- the stored fact at its kind byte
+unfoldable pub storedAt : List ℕ → ℕ → Stored
+storedAt a p = record {
+  id = record { 0 = u32At a (p + 1) };
+  fact = record { symbol = symbolAt a (p + 5); a0 = i32At a (p + 6); a1 = i32At a (p + 10); a2 = i32At a (p + 14); a3 = i32At a (p + 18) };
+}
+
+-- n records of 22 bytes, from p on
+unfoldable pub answerFrom : List ℕ → ℕ → ℕ → List Stored
+answerFrom a p zero = []
+answerFrom a p (suc n) = storedAt a p ∷ answerFrom a (p + 22) n
+
+-- the facts of an answer that has n of them
+unfoldable pub readAnswer : ℕ → List ℕ → List Stored
+readAnswer n a = answerFrom a 0 n

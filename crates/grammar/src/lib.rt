@@ -1,0 +1,1 @@
+// The grammar of tables is specs/ and proofs/ alone: this crate has no code.
