@@ -1,0 +1,6 @@
+-- What holds of the grammar: a table is good exactly if it is the encoding of a well-formed tree, and so for goals; answers are read back.
+pub mod Same
+pub mod Slots
+pub mod Places
+pub mod Tests
+pub mod Parts
