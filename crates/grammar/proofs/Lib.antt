@@ -4,3 +4,4 @@ pub mod Slots
 pub mod Places
 pub mod Tests
 pub mod Parts
+pub mod Reading
