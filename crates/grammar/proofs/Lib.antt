@@ -5,3 +5,4 @@ pub mod Places
 pub mod Tests
 pub mod Parts
 pub mod Reading
+pub mod Encoded

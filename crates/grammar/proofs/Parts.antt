@@ -363,12 +363,21 @@ pub fact-laid : (t : List ℕ) (p s : ℕ) (es : List Formula) → isFact t p �
 unfolding laidItem
 fact-laid t p s es k q = item-fact t p k ∙ (λ i. bodyFact (record { 0 = q .symbol i }) (q .formulas i))
 
+pub fail-laid : (t : List ℕ) (p : ℕ) → isFact t p ≡ false → itemAt t p ≡ laidItem fail
+unfolding laidItem
+fail-laid t p k = item-fail t p k
+
 -- ---- with the arities of the symbols
 
-module _ (t arities : List ℕ) (declared : (k : ℕ) → k < length arities → arityAt t k ≡ getD arities k 0) (small : every (λ (a : ℕ). a ≤ 4) arities) where
+module _ (arities : List ℕ) (small : every (λ (a : ℕ). a ≤ 4) arities) where
   pub uses-few : (s n : ℕ) → Uses arities s n → n ≤ 4
   uses-few s n w = let h : getD arities s 0 ≤ 4 = every-getD (λ (a : ℕ). a ≤ 4) arities s 0 small (omega arith) in omega (arith, w .uses)
 
+  pub heads-few : (hs : List HeadTree) → every (HeadGood arities) hs → every (λ (h : HeadTree). length (h .terms) ≤ 4) hs
+  heads-few hs u =
+      every-weaken (HeadGood arities) (λ (h : HeadTree). length (h .terms) ≤ 4) (λ h g. uses-few (h .symbol) (length (h .terms)) (g .symbol)) hs u
+
+module _ (t arities : List ℕ) (declared : (k : ℕ) → k < length arities → arityAt t k ≡ getD arities k 0) (small : every (λ (a : ℕ). a ≤ 4) arities) where
   -- the arity of a symbol that is used
   uses-arity : (s n : ℕ) → Uses arities s n → arityAt t s ≡ n
   uses-arity s n w = declared s (w .declared) ∙ sym (w .uses)
@@ -379,18 +388,14 @@ module _ (t arities : List ℕ) (declared : (k : ℕ) → k < length arities →
       record { declared = h; uses = d ∙ declared s h }
 
   arity-few : (s : ℕ) → leb (length arities) s ≡ false → arityAt t s ≤ 4
-  arity-few s e = uses-few s (arityAt t s) (uses-of s (arityAt t s) e refl)
-
-  pub heads-few : (hs : List HeadTree) → every (HeadGood arities) hs → every (λ (h : HeadTree). length (h .terms) ≤ 4) hs
-  heads-few hs u =
-      every-weaken (HeadGood arities) (λ (h : HeadTree). length (h .terms) ≤ 4) (λ h g. uses-few (h .symbol) (length (h .terms)) (g .symbol)) hs u
+  arity-few s e = uses-few arities small s (arityAt t s) (uses-of s (arityAt t s) e refl)
 
   pub head-passes : (p : ℕ) (h : HeadTree) → HeadGood arities h → headAt t p ≡ laidHead h → headBad t p (length arities) ≡ false
   unfolding laidHead
   head-passes p h g e =
       rw (head-test t p (length arities), e, uses-arity (h .symbol) (length (h .terms)) (g .symbol))
       (or-both (leb (length arities) (h .symbol)) _ (lt-leb (length arities) (h .symbol) (g .symbol .declared))
-      (laid-used slotOf Unused placeBad TermGood (λ a k. term-used a) slot-unused 4 (h .terms) (uses-few (h .symbol) (length (h .terms)) (g .symbol))
+      (laid-used slotOf Unused placeBad TermGood (λ a k. term-used a) slot-unused 4 (h .terms) (uses-few arities small (h .symbol) (length (h .terms)) (g .symbol))
       (g .terms)))
 
   pub record HeadFits (p : ℕ) (h : HeadTree) : Type 0 where
@@ -417,7 +422,7 @@ module _ (t arities : List ℕ) (declared : (k : ℕ) → k < length arities →
   fact-passes p s es w g q =
       rw (fact-test t p (length arities), q .symbol, q .formulas, uses-arity s (length es) w)
       (or-both (leb (length arities) s) _ (lt-leb (length arities) s (w .declared))
-      (laid-used expressionOf noExpression expressionWrong FormulaGood (λ e k. formula-used e) none-unused 4 es (uses-few s (length es) w) g))
+      (laid-used expressionOf noExpression expressionWrong FormulaGood (λ e k. formula-used e) none-unused 4 es (uses-few arities small s (length es) w) g))
 
   pub record FactFits (p s : ℕ) (es : List Formula) : Type 0 where
     pub reads : FactReads t p s es

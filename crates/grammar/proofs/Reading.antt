@@ -156,7 +156,7 @@ module _ (t : List ℕ) (r : Reading) where
 not-one : (stage : ℕ) → 2 ≤ stage → eqb stage 1 ≡ false
 not-one stage l = ne-eqb stage 1 (λ (e : stage ≡ 1). omega arith)
 
-fail-long : length (itemBytes fail) ≡ 1
+pub fail-long : length (itemBytes fail) ≡ 1
 unfolding itemBytes
 fail-long = refl
 
@@ -249,15 +249,15 @@ module _ (t arities : List ℕ) (declared : (k : ℕ) → k < length arities →
     guard-usual at g w e =
         rw (guard-strange t start heads at, e)
         (or-both (expressionStrange t start heads (expressionOf (g .left))) _
-        (formula-known t start heads hs read (heads-few t arities declared small hs good) (g .left) (w .leftKnown))
-        (formula-known t start heads hs read (heads-few t arities declared small hs good) (g .right) (w .rightKnown)))
+        (formula-known t start heads hs read (heads-few arities small hs good) (g .left) (w .leftKnown))
+        (formula-known t start heads hs read (heads-few arities small hs good) (g .right) (w .rightKnown)))
 
     fact-usual : (at s : ℕ) (es : List Formula) → every (FormulaKnown (headTerms hs)) es → FactReads t at s es → strangeFact t start heads at ≡ false
     fact-usual at s es w e =
         fact-strange t start heads at
         ∙ ap (anyOf (expressionStrange t start heads)) (e .formulas)
         ∙ laid-any expressionOf noExpression (expressionStrange t start heads) (FormulaKnown (headTerms hs))
-        (formula-known t start heads hs read (heads-few t arities declared small hs good)) (none-known t start heads hs read) 4 es w
+        (formula-known t start heads hs read (heads-few arities small hs good)) (none-known t start heads hs read) 4 es w
 
     reads-guards : (gs : List GuardTree) (at stage n : ℕ) → 2 ≤ stage → stage ≤ 4 → n + length gs ≤ 4 → every (GuardGood (headTerms hs)) gs
         → At t at (eachBytes guardBytes gs)
