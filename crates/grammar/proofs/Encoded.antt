@@ -1,8 +1,8 @@
 -- The encoding of a well-formed tree is a good table, and reading it back gives the tree: its Table is the tree laid out, and so no two well-formed
 -- trees have one encoding. By the reading of its records (Reading), and by what each part is read to (Parts).
 use Prim.Native.Nat.{ℕ, zero, suc, _+_, _-_, _*_, _≤_, _<_}
-use mathlib.Core.Path.{_≡_, refl, sym, ap, _∙_, subst}
-use mathlib.Core.Bool.{Bool, true, false}
+use mathlib.Core.Path.{_≡_, refl, sym, ap, _∙_}
+use mathlib.Core.Bool.{true, false}
 use mathlib.Core.List.{List, [], _∷_, _++_, map, append-nil}
 use native.Mathlib.Omega.{arith}
 use native.Mathlib.Numerals.{add-one}
@@ -11,29 +11,29 @@ use lib.Seq.{take-suc-set, append-snoc}
 use Rattle.model.specs.declared.Slot.the-variants.{Unused}
 use Rattle.model.specs.declared.RuleShape.{RuleShape}
 use Rattle.model.specs.declared.Reading.{Reading}
-use Rattle.model.specs.declared.Verdict.the-variants.{Good, Refused}
+use Rattle.model.specs.declared.Verdict.the-variants.{Good}
 use Rattle.model.specs.Fields.{arityAt}
-use Rattle.model.specs.Reading.{noShape, noShapes, firstScan, reading, readOf}
-use Rattle.model.specs.Table.{Head, Guard, BodyItem, Rule, Table, guardAt, isFact, itemAt, behindItem, headsFrom, guardsFrom, itemsFrom, ruleOf, tableBy}
-use Rattle.model.specs.Table.{tableOf}
+use Rattle.model.specs.Reading.{noShape, noShapes, reading, readOf}
+use Rattle.model.specs.Table.{Table, guardAt, isFact, headsFrom, guardsFrom, itemsFrom, ruleOf, tableBy, tableOf}
 use Rattle.model.proofs.Every.{every}
 use Rattle.model.proofs.Good.{behind-fact, behind-fail}
 use Rattle.grammar.specs.Tree.{Term, Formula, HeadTree, GuardTree, ItemTree, fact, fail, RuleTree, TableTree, headsOf, headTerms}
 use Rattle.grammar.specs.Encode.{eachBytes, symbolBytes, guardBytes, itemBytes, ruleBytes, encode}
-use Rattle.grammar.specs.WellFormed.{HeadGood, GuardGood, ItemGood, RuleGood, WellFormed, Uses}
-use Rattle.grammar.specs.Layout.{slotOf, expressionOf, noExpression, laidPlaces, laidHead, laidGuard, laidItem, laidRule, laid, termsIn, usedOf}
-use Rattle.grammar.specs.Layout.{formulasIn, formulaIn, headTree, guardTree, itemTree, ruleTree, aritiesFrom, aritiesOf, treeOf}
+use Rattle.grammar.specs.WellFormed.{HeadGood, GuardGood, ItemGood, RuleGood, WellFormed}
+use Rattle.grammar.specs.Layout.{slotOf, expressionOf, noExpression, laidHead, laidGuard, laidItem, laidRule, laid, termsIn, formulasIn, formulaIn}
+use Rattle.grammar.specs.Layout.{headTree, guardTree, itemTree, ruleTree, aritiesFrom, aritiesOf, treeOf}
 use Rattle.grammar.proofs.Same.{Same, same-first, same-rest, same-left, same-right, same-at, same-self}
 use Rattle.grammar.proofs.Places.{used-back}
 use Rattle.grammar.proofs.Tests.{term-back, unused-back, formula-back, none-back, comparator-back}
-use Rattle.grammar.proofs.Parts.{each-decode, guards-rows, guard-long, guard-decodes, fact-long, fact-decodes, fact-laid, is-fact, is-fail, fail-laid, uses-few}
-use Rattle.grammar.proofs.Reading.{At, at-left, at-right, at-at, Reads, scanOf, shapeOf, shapeAt, shapesBehind, RuleAt, rule-at, heads-decode}
-use Rattle.grammar.proofs.Reading.{reads-symbols, reads-rules, reads-end, fail-long}
+use Rattle.grammar.proofs.Parts.{each-decode, guards-rows, guard-long, guard-decodes, fact-long, fact-decodes, fact-laid, is-fact, is-fail}
+use Rattle.grammar.proofs.Parts.{fail-laid, uses-few}
+use Rattle.grammar.proofs.Reading.{At, at-left, at-right, at-at, shapeAt, shapesBehind, rule-at, heads-decode, reads-symbols, reads-rules}
+use Rattle.grammar.proofs.Reading.{reads-end, fail-long}
 
 -- ---- the arities
 
 module _ (t : List ℕ) where
-  symbols-long : (ns : List ℕ) → length (eachBytes symbolBytes ns) ≡ 2 * length ns
+  pub symbols-long : (ns : List ℕ) → length (eachBytes symbolBytes ns) ≡ 2 * length ns
   unfolding eachBytes symbolBytes
   symbols-long [] = refl
   symbols-long (a ∷ ns) = omega (arith, symbols-long ns)

@@ -6,3 +6,4 @@ pub mod Tests
 pub mod Parts
 pub mod Reading
 pub mod Encoded
+pub mod Grammar

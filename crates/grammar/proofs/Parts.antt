@@ -2,15 +2,15 @@
 -- a part which passes them is the bytes of the good tree that is read back. Each test is said on what is decoded, and there the laws of places serve.
 use Prim.Native.Nat.{ℕ, zero, suc, _+_, _*_, _≤_, _<_}
 use mathlib.Core.Path.{_≡_, refl, sym, ap, _∙_, subst}
-use mathlib.Core.Bool.{Bool, true, false, cond, not, _||_}
+use mathlib.Core.Bool.{Bool, true, false, _||_}
 use mathlib.Core.List.{List, [], _∷_, _++_, map}
 use native.Mathlib.Omega.{arith}
 use native.Mathlib.Nat.{mul-suc}
-use lib.Dec.{ltb, leb, eqb}
+use lib.Dec.{ltb, leb}
 use lib.ListN.{length, getD, length-append}
 use borrow.Author.Tests.{lt-leb, leb-false, ltb-false, not-false}
-use Rattle.numbers.specs.Laws.{InRange, fits-in-range}
-use Rattle.wire.specs.Wire.{u32At, signedOf}
+use Rattle.numbers.specs.Laws.{fits-in-range}
+use Rattle.wire.specs.Wire.{u32At}
 use Rattle.wire.specs.Laws.{signed-fits}
 use Rattle.model.specs.declared.Slot.{Slot}
 use Rattle.model.specs.declared.Slot.the-variants.{Unused, Constant, Variable, Bad}
@@ -18,24 +18,22 @@ use Rattle.model.specs.declared.Expression.{Expression}
 use Rattle.model.specs.Slots.{slotAt, expressionAt}
 use Rattle.model.specs.Fields.{placeBad, arityAt, placesBad, expressionBad, argumentsBad, headBad, guardBad, bodyFactBad}
 use Rattle.model.specs.Variables.{isVariable, headHas, inHeads, strangeSlot, strangeExpression, strangeGuard, strangeFact}
-use Rattle.model.specs.Table.{Head, Guard, BodyItem, bodyFact, bodyFail, symbolAt, headAt, guardAt, bodyFactAt, isFact, itemAt, headsFrom, guardsFrom}
+use Rattle.model.specs.Table.{Head, Guard, bodyFact, bodyFail, symbolAt, headAt, guardAt, bodyFactAt, isFact, itemAt, headsFrom, guardsFrom}
 use Rattle.model.proofs.Every.{every, every-weaken}
 use Rattle.model.proofs.Lists.{or-false-left, or-false-right, or-both, every-getD}
 use Rattle.model.proofs.Ranges.{AreBytes}
-use Rattle.grammar.specs.Tree.{Term, constant, variable, Formula, alone, applied, comparatorNumber, HeadTree, GuardTree, ItemTree, fact, fail}
-use Rattle.grammar.specs.Tree.{headTerms}
+use Rattle.grammar.specs.Tree.{Term, constant, variable, Formula, alone, applied, comparatorNumber, HeadTree, GuardTree, fact, fail, headTerms}
 use Rattle.grammar.specs.Encode.{eachBytes, placesBytes, termBytes, formulaBytes, headBytes, guardBytes, itemBytes}
-use Rattle.grammar.specs.WellFormed.{TermGood, FormulaGood, TermKnown, FormulaKnown, Uses, HeadGood, GuardGood, FactGood, ItemGood}
-use Rattle.grammar.specs.Layout.{slotOf, expressionOf, noExpression, numbered, laidPlaces, laidHead, laidGuard, laidItem, termsIn, usedOf}
-use Rattle.grammar.specs.Layout.{formulasIn, formulaIn, headTree, guardTree, itemTree}
+use Rattle.grammar.specs.WellFormed.{TermGood, FormulaGood, TermKnown, FormulaKnown, Uses, HeadGood}
+use Rattle.grammar.specs.Layout.{slotOf, expressionOf, noExpression, laidPlaces, laidHead, laidGuard, laidItem, termsIn, usedOf, formulasIn}
+use Rattle.grammar.specs.Layout.{formulaIn, headTree, guardTree}
 use Rattle.grammar.proofs.Same.{Same, same-first, same-rest, same-more, same-left, same-right, same-both, same-at, same-none}
 use Rattle.grammar.proofs.Slots.{term-long, term-decodes, unused-decodes, term-encodes, unused-encodes, formula-long, formula-decodes, none-decodes}
 use Rattle.grammar.proofs.Slots.{formula-encodes, none-encodes, SlotTells, slot-at, below}
-use Rattle.grammar.proofs.Places.{rowsAt, usedBad, four-used, places-long, places-decode, places-encode, laid-used, used-laid, PlacesGood, PlaceUsed}
-use Rattle.grammar.proofs.Places.{or-none}
+use Rattle.grammar.proofs.Places.{rowsAt, usedBad, four-used, places-long, places-decode, places-encode, laid-used, used-laid, PlaceUsed, or-none}
 use Rattle.grammar.proofs.Tests.{SlotHeld, ExpressionHeld, term-used, slot-unused, slot-used, slot-blank, comparator-few, comparator-numbered}
-use Rattle.grammar.proofs.Tests.{expressionWrong, formula-used, none-unused, expression-used, expression-blank, slotsHave, headsHave, heads-have}
-use Rattle.grammar.proofs.Tests.{have-heads, anyOf, laid-any, any-laid}
+use Rattle.grammar.proofs.Tests.{expressionWrong, formula-used, none-unused, expression-used, expression-blank, headsHave, heads-have, have-heads}
+use Rattle.grammar.proofs.Tests.{anyOf}
 
 -- ---- what slots and expressions from bytes hold
 
@@ -267,7 +265,8 @@ guard-fits t u p e =
     let q = sym (guard-test t p) ∙ e in
     let few : getD t (p + 1) 0 ≤ 5 = ltb-false 5 (getD t (p + 1) 0) (or-false-left (ltb 5 (getD t (p + 1) 0)) _ q) in
     let sides = or-false-right (ltb 5 (getD t (p + 1) 0)) _ q in
-    let l = side (expressionAt t (p + 2)) (expression-used _ (or-false-left (expressionWrong true (expressionAt t (p + 2))) _ sides) (expression-held t u (p + 2))) in
+    let l = side (expressionAt t (p + 2))
+    (expression-used _ (or-false-left (expressionWrong true (expressionAt t (p + 2))) _ sides) (expression-held t u (p + 2))) in
     let r = side (expressionAt t (p + 13))
     (expression-used _ (or-false-right (expressionWrong true (expressionAt t (p + 2))) _ sides) (expression-held t u (p + 13))) in
     record {
@@ -347,7 +346,8 @@ fact-decodes t p s es g q =
     record {
       symbol = same-first t (p + 1) s placed rest;
       formulas =
-          places-decode formulaBytes 11 expressionOf noExpression t (expressionAt t) formula-long FormulaGood (formula-decodes t) (none-decodes t) (p + 2) 4 es g
+          places-decode formulaBytes 11 expressionOf noExpression t (expressionAt t) formula-long FormulaGood (formula-decodes t) (none-decodes t) (p + 2) 4 es
+          g
           (same-at t (p + 1 + 1) (p + 2) placed (omega arith) (same-rest t (p + 1) s placed rest));
     }
 
@@ -395,7 +395,8 @@ module _ (t arities : List ℕ) (declared : (k : ℕ) → k < length arities →
   head-passes p h g e =
       rw (head-test t p (length arities), e, uses-arity (h .symbol) (length (h .terms)) (g .symbol))
       (or-both (leb (length arities) (h .symbol)) _ (lt-leb (length arities) (h .symbol) (g .symbol .declared))
-      (laid-used slotOf Unused placeBad TermGood (λ a k. term-used a) slot-unused 4 (h .terms) (uses-few arities small (h .symbol) (length (h .terms)) (g .symbol))
+      (laid-used slotOf Unused placeBad TermGood (λ a k. term-used a) slot-unused 4 (h .terms)
+      (uses-few arities small (h .symbol) (length (h .terms)) (g .symbol))
       (g .terms)))
 
   pub record HeadFits (p : ℕ) (h : HeadTree) : Type 0 where

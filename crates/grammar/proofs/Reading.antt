@@ -2,23 +2,22 @@
 -- numbers, so that the count of records left (each takes a byte) is asked for once, in `reads-next`. Behind the last rule stand the shapes of all rules.
 use Prim.Native.Nat.{ℕ, zero, suc, _+_, _-_, _*_, _≤_, _<_}
 use mathlib.Core.Path.{_≡_, refl, sym, ap, _∙_, subst}
-use mathlib.Core.Bool.{Bool, true, false, cond, _||_}
+use mathlib.Core.Bool.{false}
 use mathlib.Core.List.{List, [], _∷_, _++_, map}
 use native.Mathlib.Omega.{arith}
-use lib.Dec.{ltb, leb, eqb}
+use lib.Dec.{eqb}
 use lib.ListN.{length, getD, set, length-append}
 use lib.Seq.{set-set}
 use borrow.Author.Tests.{lt-leb, le-ltb, ne-eqb}
 use Rattle.model.specs.declared.Kind.{Kind}
-use Rattle.model.specs.declared.Kind.the-variants.{NextSymbol, NextRule, KeptHead, RemovedHead, Comparison, BodyFact, BodyFail, EndOfTable, Unknown}
+use Rattle.model.specs.declared.Kind.the-variants.{NextSymbol, NextRule, KeptHead, RemovedHead, Comparison, BodyFact, BodyFail, EndOfTable}
 use Rattle.model.specs.declared.RuleShape.{RuleShape}
 use Rattle.model.specs.declared.Scan.{Scan}
-use Rattle.model.specs.declared.RecordStep.{RecordStep}
-use Rattle.model.specs.declared.RecordStep.the-variants.{Next, Stop, Done}
+use Rattle.model.specs.declared.RecordStep.the-variants.{Next, Done}
 use Rattle.model.specs.declared.Reading.{Reading}
-use Rattle.model.specs.declared.Verdict.the-variants.{Good, Refused}
+use Rattle.model.specs.declared.Verdict.the-variants.{Good}
 use Rattle.model.specs.Records.{kindOf, sizeOf, earliestOf, latestOf, outOfOrder, headless, tooMany}
-use Rattle.model.specs.Fields.{arityAt, headBad, guardBad, bodyFactBad, badField}
+use Rattle.model.specs.Fields.{arityAt, headBad, badField}
 use Rattle.model.specs.Variables.{strange, strangeGuard, strangeFact}
 use Rattle.model.specs.Reading.{reading, behind, fieldsOf, orderedOf, testedOf, recordOf, noted, ended, goOn, readFrom}
 use Rattle.model.specs.Table.{Head, headAt, headsFrom, guardAt}
@@ -31,8 +30,9 @@ use Rattle.grammar.specs.Encode.{eachBytes, symbolBytes, headBytes, guar
 use Rattle.grammar.specs.WellFormed.{FormulaKnown, HeadGood, GuardGood, ItemGood, RuleGood}
 use Rattle.grammar.specs.Layout.{laidHead, laidGuard, expressionOf, noExpression}
 use Rattle.grammar.proofs.Same.{Same, same-first, same-rest, same-left, same-right, same-at}
-use Rattle.grammar.proofs.Parts.{head-long, head-decodes, head-passes, guard-long, guard-decodes, guard-passes, guard-strange, fact-long, fact-decodes}
-use Rattle.grammar.proofs.Parts.{each-long, each-decode, heads-rows, fact-passes, fact-strange, formula-known, none-known, heads-few, expressionStrange, FactReads}
+use Rattle.grammar.proofs.Parts.{head-long, head-decodes, head-passes, guard-long, guard-decodes, guard-passes, guard-strange, fact-long}
+use Rattle.grammar.proofs.Parts.{fact-decodes, each-long, each-decode, heads-rows, fact-passes, fact-strange, formula-known, none-known, heads-few}
+use Rattle.grammar.proofs.Parts.{expressionStrange, FactReads}
 use Rattle.grammar.proofs.Tests.{anyOf, laid-any}
 
 -- ---- bytes that stand in t, and lie in it
@@ -365,10 +365,10 @@ pub record RuleAt (t : List ℕ) (p : ℕ) (w : RuleTree) : Type 0 where
   pub long : length (ruleBytes w)
       ≡ 1 + 22 * (length (w .kept) + length (w .removed)) + 24 * length (w .guards) + length (eachBytes itemBytes (w .items))
 
-heads-long : (byte : ℕ) (hs : List HeadTree) → length (eachBytes (headBytes byte) hs) ≡ 22 * length hs
+pub heads-long : (byte : ℕ) (hs : List HeadTree) → length (eachBytes (headBytes byte) hs) ≡ 22 * length hs
 heads-long byte hs = each-long (headBytes byte) 22 laidHead [] (headAt []) (head-long byte) hs
 
-guards-long : (gs : List GuardTree) → length (eachBytes guardBytes gs) ≡ 24 * length gs
+pub guards-long : (gs : List GuardTree) → length (eachBytes guardBytes gs) ≡ 24 * length gs
 guards-long gs = each-long guardBytes 24 laidGuard [] (guardAt []) guard-long gs
 
 pub rule-at : (t : List ℕ) (p : ℕ) (w : RuleTree) → At t p (ruleBytes w) → RuleAt t p w
@@ -398,9 +398,9 @@ pub heads-decode : (t arities : List ℕ) (p byte : ℕ) (hs : List HeadTree) �
     → headsFrom t p (length hs) ≡ map laidHead hs
 heads-decode t arities p byte hs g a =
     heads-rows t p (length hs)
-    ∙ each-decode (headBytes byte) 22 laidHead t (headAt t) (head-long byte) (HeadGood arities) (λ q h w s. head-decodes t q byte h (w .terms) s) p hs g (a .same)
+    ∙ each-decode (headBytes byte) 22 laidHead t (headAt t) (head-long byte) (HeadGood arities) (λ q h w. head-decodes t q byte h (w .terms)) p hs g (a .same)
 
-map-append : {A B : Type 0} (f : A → B) (xs ys : List A) → map f xs ++ map f ys ≡ map f (xs ++ ys)
+pub map-append : {A B : Type 0} (f : A → B) (xs ys : List A) → map f xs ++ map f ys ≡ map f (xs ++ ys)
 map-append f [] ys = refl
 map-append f (x ∷ xs) ys = ap (λ l. f x ∷ l) (map-append f xs ys)
 
@@ -408,7 +408,8 @@ pub rule-heads : (t arities : List ℕ) (p : ℕ) (w : RuleTree) → RuleGood ar
     → headsFrom t (p + 1) (length (w .kept) + length (w .removed)) ≡ map laidHead (headsOf w)
 rule-heads t arities p w g a =
     heads-append t (p + 1) (length (w .kept)) (length (w .removed))
-    ∙ ap (λ (l : List Head). l ++ headsFrom t (p + 1 + 22 * length (w .kept)) (length (w .removed))) (heads-decode t arities (p + 1) 3 (w .kept) (g .kept) (a .kept))
+    ∙ ap (λ (l : List Head). l ++ headsFrom t (p + 1 + 22 * length (w .kept)) (length (w .removed)))
+    (heads-decode t arities (p + 1) 3 (w .kept) (g .kept) (a .kept))
     ∙ ap (λ (l : List Head). map laidHead (w .kept) ++ l)
     (heads-decode t arities (p + 1 + 22 * length (w .kept)) 4 (w .removed) (g .removed) (a .removed))
     ∙ map-append laidHead (w .kept) (w .removed)
@@ -453,7 +454,8 @@ module _ (t arities : List ℕ) (declared : (k : ℕ) → k < length arities →
       (λ at2 s2 n2 e2 d2 l2 m2 w2.
       let same : n2 ≡ length (w .kept) + length (w .removed) = omega arith in
       let read2 : headsFrom t (at + 1) n2 ≡ map laidHead (headsOf w) = ap (headsFrom t (at + 1)) same ∙ read in
-      reads-guards t arities declared small r k shapes at n1 n2 (headsOf w) read2 good (w .guards) at2 s2 0 (w2 (omega arith)) (omega arith) (omega (arith, g .fewGuards))
+      reads-guards t arities declared small r k shapes at n1 n2 (headsOf w) read2 good (w .guards) at2 s2 0 (w2 (omega arith)) (omega arith)
+      (omega (arith, g .fewGuards))
       (g .guards) (at-at t (at + 1 + 22 * (length (w .kept) + length (w .removed))) at2 _ (omega arith) (p .guards))
       (λ at3 s3 n3 e3 d3 l3 m3.
       reads-items t arities declared small r k shapes at n1 n2 (headsOf w) read2 good (w .items) at3 s3 n3 0 l3 (omega arith) (omega (arith, g .fewItems))

@@ -1,15 +1,12 @@
 -- Bytes that stand in a table at an offset, split where the bytes are joined, and words among them. No list is ever put together again: each law
 -- goes by the index.
-use Prim.Native.Nat.{ℕ, zero, suc, _+_, _-_, _*_, _/_, _%_, _≤_, _<_}
-use mathlib.Core.Path.{_≡_, refl, sym, ap, _∙_, subst}
-use mathlib.Core.Bool.{Bool, true, false}
+use Prim.Native.Nat.{ℕ, zero, suc, _+_, _*_, _/_, _%_, _<_}
+use mathlib.Core.Path.{_≡_, refl, sym, _∙_, subst}
 use mathlib.Core.List.{List, [], _∷_, _++_}
 use native.Mathlib.Omega.{arith}
-use native.Mathlib.Nat.{div-div-eq-div-mul, mod-eq-of-lt, add-zero}
-use lib.Dec.{ltb}
+use native.Mathlib.Nat.{div-div-eq-div-mul, mod-eq-of-lt}
 use lib.ListN.{length, getD, replicate, length-append, List·getD-append}
 use lib.Seq.{getD-append-add, ext-getD}
-use borrow.Author.Tests.{ltb-true, ltb-false}
 use Rattle.wire.specs.Wire.{u32At, bytes4, joined}
 use Rattle.model.proofs.Ranges.{AreBytes}
 use Rattle.model.proofs.Lists.{every-getD}

@@ -1,9 +1,9 @@
 -- Terms and expressions against their bytes: what the bytes of a good one are read to, and that what is read to one stands as its bytes. A slot says
 -- its tag and value, since each comes from one of the tests in turn.
-use Prim.Native.Nat.{ℕ, zero, suc, _+_, _≤_, _<_}
+use Prim.Native.Nat.{ℕ, _+_, _≤_, _<_}
 use mathlib.Core.Path.{_≡_, refl, sym, ap, _∙_, subst}
-use mathlib.Core.Bool.{Bool, true, false, cond, not, _||_}
-use mathlib.Core.List.{List, [], _∷_, _++_}
+use mathlib.Core.Bool.{Bool, true, false, cond}
+use mathlib.Core.List.{List, _∷_, _++_}
 use native.Mathlib.Omega.{arith}
 use lib.Dec.{ltb, eqb}
 use lib.ListN.{length, getD, replicate}
@@ -16,14 +16,14 @@ use Rattle.model.specs.declared.Slot.{Slot}
 use Rattle.model.specs.declared.Slot.the-variants.{Unused, Constant, Variable, Bad}
 use Rattle.model.specs.declared.Expression.{Expression}
 use Rattle.model.specs.Slots.{slotBy, slotAt, expressionAt}
-use Rattle.model.proofs.Ranges.{AreBytes, SlotRanged}
+use Rattle.model.proofs.Ranges.{AreBytes}
 use Rattle.model.proofs.Lists.{every-getD}
-use Rattle.grammar.specs.Tree.{Term, constant, variable, Operation, Formula, alone, applied, operationNumber}
+use Rattle.grammar.specs.Tree.{Term, constant, variable, Formula, alone, applied, operationNumber}
 use Rattle.grammar.specs.Encode.{termBytes, unusedSlot, formulaBytes}
 use Rattle.grammar.specs.WellFormed.{TermGood, FormulaGood}
 use Rattle.grammar.specs.Layout.{slotOf, expressionOf, noExpression}
 use Rattle.grammar.proofs.Same.{Same, same-first, same-rest, same-more, same-left, same-right, same-both, same-at, word-decodes, word-encodes}
-use Rattle.grammar.proofs.Same.{zeros-encode, zeros-decode, word-long}
+use Rattle.grammar.proofs.Same.{zeros-encode, zeros-decode}
 
 -- ---- what a slot tells of its tag and value
 

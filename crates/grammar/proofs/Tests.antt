@@ -1,15 +1,14 @@
 -- The tests of the definition on what is decoded, against trees: what is laid out from a good tree passes each, and what passes them is laid out from
 -- the tree that is read back, which is good. By the cases of a slot and of an operation.
-use Prim.Native.Nat.{ℕ, zero, suc, _+_, _≤_, _<_}
-use mathlib.Core.Path.{_≡_, refl, sym, ap, _∙_, subst}
-use mathlib.Core.Logic.{_⊎_, inl, inr, ⊎-elim}
-use mathlib.Core.Bool.{Bool, true, false, cond, not, _||_}
-use mathlib.Core.List.{List, [], _∷_, _++_, map, List·Memᴰ, List·Memᴰ·head, List·Memᴰ·tail, Memᴰ·append-left, Memᴰ·append-right}
-use mathlib.Core.List.{List·Memᴰ·append-cases}
+use Prim.Native.Nat.{ℕ, zero, suc, _≤_}
+use mathlib.Core.Path.{_≡_, refl, sym, ap}
+use mathlib.Core.Logic.{_⊎_, inl, inr}
+use mathlib.Core.Bool.{Bool, true, false, not, _||_}
+use mathlib.Core.List.{List, [], _∷_, _++_, map, List·Memᴰ, List·Memᴰ·head, List·Memᴰ·tail, Memᴰ·append-left, Memᴰ·append-right, List·Memᴰ·append-cases}
 use native.Mathlib.Omega.{arith}
-use lib.Dec.{ltb, eqb}
-use lib.ListN.{length, getD}
-use borrow.Author.Tests.{ltb-false, ltb-true, le-ltb, lt-ltb, eqb-true, eq-eqb, not-false}
+use lib.Dec.{ltb}
+use lib.ListN.{length}
+use borrow.Author.Tests.{ltb-false, lt-ltb, eqb-true, eq-eqb}
 use Rattle.numbers.specs.Laws.{InRange}
 use Rattle.model.specs.declared.Slot.{Slot}
 use Rattle.model.specs.declared.Slot.the-variants.{Unused, Constant, Variable, Bad}
@@ -19,12 +18,12 @@ use Rattle.model.specs.Variables.{isVariable}
 use Rattle.model.specs.Table.{Head}
 use Rattle.model.proofs.Every.{every}
 use Rattle.model.proofs.Lists.{or-false-left, or-false-right, or-both}
-use Rattle.grammar.specs.Tree.{Term, constant, variable, Operation, sum, difference, product, quotient, remainder, operationNumber, HeadTree, headTerms}
-use Rattle.grammar.specs.Tree.{Formula, alone, applied, Comparator, equal, unequal, less, atMost, greater, atLeast, comparatorNumber}
-use Rattle.grammar.specs.WellFormed.{TermGood, FormulaGood, TermKnown, FormulaKnown}
-use Rattle.grammar.specs.Layout.{laidPlaces, slotOf, expressionOf, noExpression, laidHead, termsIn, usedOf, operationOf, formulasBy, formulasIn}
+use Rattle.grammar.specs.Tree.{Term, constant, variable, Operation, sum, difference, product, quotient, remainder, operationNumber, HeadTree}
+use Rattle.grammar.specs.Tree.{headTerms, Formula, alone, applied, Comparator, equal, unequal, less, atMost, greater, atLeast, comparatorNumber}
+use Rattle.grammar.specs.WellFormed.{TermGood, FormulaGood}
+use Rattle.grammar.specs.Layout.{laidPlaces, slotOf, expressionOf, noExpression, laidHead, termsIn, operationOf, formulasBy, formulasIn}
 use Rattle.grammar.specs.Layout.{comparatorOf}
-use Rattle.grammar.proofs.Places.{PlaceUsed, or-none}
+use Rattle.grammar.proofs.Places.{PlaceUsed}
 
 -- ---- slots
 

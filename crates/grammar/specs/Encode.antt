@@ -5,8 +5,8 @@ use mathlib.Core.List.{List, [], _∷_, _++_}
 use lib.IntN.{ℤ}
 use lib.ListN.{replicate}
 use Rattle.wire.specs.Wire.{bytes4, bitsOf}
-use Rattle.grammar.specs.Tree.{Term, constant, variable, Operation, operationNumber, Formula, alone, applied, comparatorNumber}
-use Rattle.grammar.specs.Tree.{HeadTree, GuardTree, ItemTree, fact, fail, RuleTree, TableTree, GoalFact}
+use Rattle.grammar.specs.Tree.{Term, constant, variable, operationNumber, Formula, alone, applied, comparatorNumber, HeadTree, GuardTree, ItemTree}
+use Rattle.grammar.specs.Tree.{fact, fail, RuleTree, TableTree, GoalFact}
 
 -- ---- one behind the other, and in places
 

@@ -1,7 +1,7 @@
 -- A tree as the definition's own Table: four slots a head and four expressions a body fact, the later ones unused. And back: a tree read from bytes.
 use Prim.Native.Nat.{ℕ, zero, suc}
 use mathlib.Core.List.{List, [], _∷_, _++_, map}
-use lib.IntN.{ℤ, pos}
+use lib.IntN.{pos}
 use lib.ListN.{length, getD, take}
 use Rattle.model.specs.declared.Slot.{Slot}
 use Rattle.model.specs.declared.Slot.the-variants.{Unused, Constant, Variable, Bad}
@@ -13,9 +13,9 @@ use Rattle.model.specs.Reading.{readOf}
 use Rattle.model.specs.Matching.{arguments}
 use Rattle.model.specs.Table.{Head, Guard, BodyItem, bodyFact, bodyFail, Rule, Table, tableOf}
 use Rattle.model.specs.Goal.{goalOf}
-use Rattle.grammar.specs.Tree.{Term, constant, variable, Operation, sum, difference, product, quotient, remainder, operationNumber}
-use Rattle.grammar.specs.Tree.{Formula, alone, applied, Comparator, equal, unequal, less, atMost, greater, atLeast, comparatorNumber}
-use Rattle.grammar.specs.Tree.{HeadTree, GuardTree, ItemTree, fact, fail, RuleTree, TableTree, GoalFact}
+use Rattle.grammar.specs.Tree.{Term, constant, variable, Operation, sum, difference, product, quotient, remainder, operationNumber, Formula, alone}
+use Rattle.grammar.specs.Tree.{applied, Comparator, equal, unequal, less, atMost, greater, atLeast, comparatorNumber, HeadTree, GuardTree, ItemTree}
+use Rattle.grammar.specs.Tree.{fact, fail, RuleTree, TableTree, GoalFact}
 
 -- ---- a tree, laid out
 
