@@ -27,6 +27,7 @@ use Rattle.model.proofs.Good.{good-table}
 use Rattle.model.proofs.Decoded.{every-heads-few}
 use Rattle.model.proofs.Loop.{run-done as run-empty, behindStep, every-run}
 use Rattle.model.proofs.Pruning.{pruning}
+use Rattle.model.proofs.Cut.{Unfinished, run-cut}
 use Rattle.model.proofs.Results.{run-cases}
 use Rattle.semantics.specs.Refined.{Config, holds, failed, Step, solve, activate, drops, simplify, propagate, default, Derivation, stays, goes}
 use Rattle.semantics.specs.Refined.{firingIn, firingsIn}
@@ -215,6 +216,14 @@ module _ (t : Table) (few : FewHeads t) where
   pub keep-derives : (goal : List Fact) (limit : ℕ) → (run t limit (start goal) .result .number ≡ 7 → ⊥)
       → Derives t (start goal) noCounts (keepRun t limit (start goal))
   keep-derives goal limit n = subst (Derives t (start goal) noCounts) (sym (pruning t goal limit n)) (run-published goal limit)
+
+  -- a run that is neither done nor failed, one that ends in 7 among them: with its own steps as the limit the run whose history keeps all ends in 2,
+  -- with the same counts and store (`keep-cut`), and is a derivation of the published relation
+  pub cut-derives : (goal : List Fact) (limit : ℕ) → Unfinished (run t limit (start goal))
+      → Derives t (start goal) noCounts (keepRun t (run t limit (start goal) .result .steps) (start goal))
+  cut-derives goal limit u =
+      keep-derives goal (run t limit (start goal) .result .steps)
+      (λ e. omega (arith, e, ap (λ (r : Ended). r .result .number) (run-cut t limit (start goal) u)))
 
   -- ---- the endings 0 and 1: a whole derivation
 
