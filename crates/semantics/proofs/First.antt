@@ -1,7 +1,7 @@
 -- The first instance is one: two firsts with a guard that is not false, at the same state and entry, have the same facts, bindings that give each
 -- variable the same value, and the same guard. For of two different lists of identifiers one comes before the other, and each that comes before a
 -- first has a false guard; the identifiers tell the facts, since the store's rise; and the facts tell the least binding.
-use Prim.Native.Nat.{ℕ, suc, _<_}
+use Prim.Native.Nat.{ℕ}
 use native.Mathlib.Omega.{arith}
 use mathlib.Core.Path.{_≡_, refl, sym, _∙_, ap, subst}
 use mathlib.Core.Bool.{Bool, true, false}

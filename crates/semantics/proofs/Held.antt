@@ -1,12 +1,11 @@
 -- The definition's history is what document 01's holds of all firings: as lists, oldest first and in the four-place form. At the start both are
 -- empty. A fact that enters has a new identifier, so that no firing names it; a firing of a rule without removed heads is put down in both; one that
 -- removes facts prunes the definition's history, and the firings that name one of them are no longer held.
-use Prim.Native.Nat.{ℕ, zero, suc, _≤_, _<_}
+use Prim.Native.Nat.{ℕ, _≤_, _<_}
 use native.Mathlib.Omega.{arith}
-use mathlib.Core.Path.{_≡_, refl, sym, _∙_, ap, subst}
+use mathlib.Core.Path.{_≡_, refl, sym, _∙_, ap}
 use mathlib.Core.Bool.{Bool, true, false, not, _&&_, _||_}
 use mathlib.Core.List.{List, [], _∷_, _++_, List·Memᴰ}
-use lib.Dec.{eqb}
 use lib.ListN.{length, drop, length-append}
 use lib.Seq.{drop-length}
 use borrow.Author.Tests.{ne-eqb}

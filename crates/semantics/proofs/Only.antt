@@ -1,21 +1,16 @@
 -- Document 01 leaves no choice: from a state whose store is listed by rising identifier there is at most one transition or ending, and so at most one
 -- derivation's end. What is on top tells Activate, Solve, Drop and a try apart; what is tried has one first instance, or none; and a store is told
 -- by its facts, since the identifiers rise.
-use Prim.Native.Nat.{ℕ, zero, suc, _≤_, _<_}
+use Prim.Native.Nat.{ℕ, suc, _≤_}
 use native.Mathlib.Omega.{arith}
 use mathlib.Core.Path.{_≡_, refl, sym, _∙_, ap, subst}
-use mathlib.Core.Bool.{Bool, true, false}
-use mathlib.Core.Option.{Option, none, some}
+use mathlib.Core.Option.{none, some}
 use mathlib.Core.Logic.{_⊎_, inl, inr}
 use mathlib.Core.List.{List, [], _∷_, _++_, List·Memᴰ, List·Memᴰ·head, List·Memᴰ·tail, List·Memᴰ·cases-cons, List·Memᴰ·not-nil}
-use lib.Dec.{leb}
-use lib.ListN.{length, drop}
-use borrow.Author.Tests.{le-leb, lt-leb}
+use lib.ListN.{length}
 use Rattle.numbers.specs.declared.Truth.{Truth}
 use Rattle.numbers.specs.declared.Truth.the-variants.{True, False, Undefined as Unknown}
 use Rattle.model.specs.declared.FactId.{FactId}
-use Rattle.model.specs.declared.Symbol.{Symbol}
-use Rattle.model.specs.declared.RuleNumber.{RuleNumber}
 use Rattle.model.specs.declared.Fact.{Fact}
 use Rattle.model.specs.declared.Item.{Item}
 use Rattle.model.specs.declared.Item.the-variants.{Waiting, Active, Fail}
@@ -23,19 +18,16 @@ use Rattle.model.specs.declared.Entry.{Entry}
 use Rattle.model.specs.declared.Stored.{Stored}
 use Rattle.model.specs.declared.Binding.{Binding}
 use Rattle.model.specs.declared.HeadPlace.{HeadPlace}
-use Rattle.model.specs.Limits.{storeRoom, stackRoom, historyRoom}
 use Rattle.model.specs.Table.{Table, ruleAt}
 use Rattle.model.specs.Guards.{guardValue}
-use Rattle.model.specs.Steps.{State, waiting, activeEntry, bodyEntries, popIf, Outcome, moves as moves-, fires as fires-, fails as fails-, stops as stops-}
-use Rattle.model.specs.Results.{Counts}
-use Rattle.model.specs.Run.{Ended, endedAs, stepped, firedOnce}
+use Rattle.model.specs.Steps.{State, waiting, activeEntry, bodyEntries, Outcome, moves as moves-, fires as fires-, fails as fails-, stops as stops-}
 use Rattle.model.proofs.Kept.{Rising}
 use Rattle.semantics.specs.Instances.{Matching, firing}
-use Rattle.semantics.specs.Refined.{SameSet, Without, Trying, ruleTried, Fires, Solve, Activate, Drop, Simplify, Propagate, Default}
-use Rattle.semantics.specs.Chosen.{Listed, held, First, Passes, Enters, Moves, activates, drops, defaults, FiresFirst, simplifies, propagates}
+use Rattle.semantics.specs.Refined.{SameSet, Trying, ruleTried, Fires, Solve, Drop, Simplify, Propagate, Default}
+use Rattle.semantics.specs.Chosen.{Listed, held, First, Enters, Moves, activates, drops, defaults, FiresFirst, simplifies, propagates}
 use Rattle.semantics.specs.Chosen.{ruleFired, Roomy, Undefined, NoBody, StoreFull, StackAbove, HistoryAbove, Stops, undefined, noBody, storeFull}
-use Rattle.semantics.specs.Chosen.{stackAbove, historyAbove, Chosen, done, fails, spent, stops, moves, fires}
-use Rattle.semantics.proofs.Alone.{same-symbol, same-id, same-j, tops, same-place, same-try, drop-not-tried}
+use Rattle.semantics.specs.Chosen.{stackAbove, historyAbove}
+use Rattle.semantics.proofs.Alone.{same-symbol, same-id, same-j, tops, same-place, same-try, drop-not-tried, simplify-not-propagate}
 use Rattle.semantics.proofs.Occurrence.{above}
 use Rattle.semantics.proofs.First.{body-same, SameFirst, one-first}
 
@@ -111,20 +103,21 @@ module _ (t : Table) (σ : State) where
 
 -- ---- two tries of one entry
 
-module _ (t : Table) {A : List Entry} (a a′ : Trying t A) where
-  entry-same : activeEntry (a .symbol) (a .id) (a .j) ≡ activeEntry (a′ .symbol) (a′ .id) (a′ .j)
-  entry-same = let e = tops t a a′ in cc
+record SameTry (t : Table) {A : List Entry} (a a′ : Trying t A) : Type 0 where
+  symbol : a .symbol ≡ a′ .symbol
+  id : a .id ≡ a′ .id
+  j : a .j ≡ a′ .j
+  under : a .under ≡ a′ .under
 
-  next-same : activeEntry (a .symbol) (a .id) (suc (a .j)) ≡ activeEntry (a′ .symbol) (a′ .id) (suc (a′ .j))
-  next-same =
-      let e = tops t a a′ in
-      let s = same-symbol (a .symbol) (a′ .symbol) (a .id) (a′ .id) (a .j) (a′ .j) (a .under) (a′ .under) e in
-      let i = same-id (a .symbol) (a′ .symbol) (a .id) (a′ .id) (a .j) (a′ .j) (a .under) (a′ .under) e in
-      let j = same-j (a .symbol) (a′ .symbol) (a .id) (a′ .id) (a .j) (a′ .j) (a .under) (a′ .under) e in
-      λ k. activeEntry (s k) (i k) (suc (j k))
-
-  under-same : a .under ≡ a′ .under
-  under-same = tail-same (tops t a a′)
+tries-same : (t : Table) {A : List Entry} (a a′ : Trying t A) → SameTry t a a′
+tries-same t a a′ =
+    let e = tops t a a′ in
+    record {
+      symbol = same-symbol (a .symbol) (a′ .symbol) (a .id) (a′ .id) (a .j) (a′ .j) (a .under) (a′ .under) e;
+      id = same-id (a .symbol) (a′ .symbol) (a .id) (a′ .id) (a .j) (a′ .j) (a .under) (a′ .under) e;
+      j = same-j (a .symbol) (a′ .symbol) (a .id) (a′ .id) (a .j) (a′ .j) (a .under) (a′ .under) e;
+      under = tail-same e;
+    }
 
 true-false : True ≡ False → ⊥
 true-false e = let w : _≡_ {A = ℕ} 0 1 = cc in omega arith
@@ -136,7 +129,7 @@ true-unknown : True ≡ Unknown → ⊥
 true-unknown e = let w : _≡_ {A = ℕ} 0 1 = cc in omega arith
 
 module _ (t : Table) (σ : State) where
-  -- ---- a firing, Simplify or Propagate: the head place tells whether the entry is popped
+  -- ---- a firing: what Simplify and Propagate share
 
   record Shot (τ : State) : Type 0 where
     tried : Trying t (σ .stack)
@@ -144,48 +137,40 @@ module _ (t : Table) (σ : State) where
     θ : Binding
     C : List Entry
     first : First t σ tried True facts θ
-    body : bodyEntries θ (ruleTried t tried .body) ≡ some C
-    store : Without (drop (length (ruleTried t tried .kept)) facts) (σ .store) (τ .store)
+    fires : Fires t (σ .store) (τ .store) (tried .place) facts θ C
     listed : Listed τ
-    stack : τ .stack
-        ≡ C ++ popIf (leb (length (ruleTried t tried .kept)) (tried .place .head)) (activeEntry (tried .symbol) (tried .id) (tried .j)) (tried .under)
     history : τ .history ≡ firing (tried .place) facts ∷ σ .history
     next : τ .next ≡ σ .next
 
-  unfoldable shot : {τ : State} → FiresFirst t σ τ → Shot τ
-  shot (simplifies s u l) = record {
+  abbrev simplify-shot : {τ : State} (s : Simplify t σ τ) → First t σ (s .tried) True (s .facts) (s .θ) → Listed τ → Shot τ
+  simplify-shot s u l = record {
     tried = s .tried;
     facts = s .facts;
     θ = s .θ;
     C = s .C;
     first = u;
-    body = s .fires .body;
-    store = s .fires .store;
+    fires = s .fires;
     listed = l;
-    stack = s .stack ∙ ap (λ (x : Bool). s .C ++ popIf x (activeEntry (s .tried .symbol) (s .tried .id) (s .tried .j)) (s .tried .under))
-        (sym (le-leb (length (ruleTried t (s .tried) .kept)) (s .tried .place .head) (s .removed)));
-    history = s .history;
-    next = s .next;
-  }
-  shot (propagates s u l) = record {
-    tried = s .tried;
-    facts = s .facts;
-    θ = s .θ;
-    C = s .C;
-    first = u;
-    body = s .fires .body;
-    store = s .fires .store;
-    listed = l;
-    stack = s .stack ∙ ap (λ (x : Bool). s .C ++ popIf x (activeEntry (s .tried .symbol) (s .tried .id) (s .tried .j)) (s .tried .under))
-        (sym (lt-leb (length (ruleTried t (s .tried) .kept)) (s .tried .place .head) (s .kept)));
     history = s .history;
     next = s .next;
   }
 
-  shot-rule : {τ : State} (f : FiresFirst t σ τ) → ruleFired t f ≡ shot f .tried .place .rule
-  unfolding shot
-  shot-rule (simplifies s u l) = refl
-  shot-rule (propagates s u l) = refl
+  abbrev propagate-shot : {τ : State} (s : Propagate t σ τ) → First t σ (s .tried) True (s .facts) (s .θ) → Listed τ → Shot τ
+  propagate-shot s u l = record {
+    tried = s .tried;
+    facts = s .facts;
+    θ = s .θ;
+    C = s .C;
+    first = u;
+    fires = s .fires;
+    listed = l;
+    history = s .history;
+    next = s .next;
+  }
+
+  unfoldable shot : {τ : State} → FiresFirst t σ τ → Shot τ
+  shot (simplifies s u l) = simplify-shot s u l
+  shot (propagates s u l) = propagate-shot s u l
 
   module _ (l : Listed σ) (τ τ′ : State) (x : Shot τ) (y : Shot τ′) where
     both-first : SameFirst True True (x .facts) (y .facts) (x .θ) (y .θ)
@@ -197,36 +182,44 @@ module _ (t : Table) (σ : State) where
     C-same : x .C ≡ y .C
     C-same =
         let e : some (x .C) ≡ some (y .C)
-        = sym (x .body) ∙ body-same (x .θ) (y .θ) (both-first .part) (both-first .back) (ruleTried t (x .tried) .body)
-        ∙ ap (λ (p : HeadPlace). bodyEntries (y .θ) (ruleAt t (p .rule) .body)) place ∙ y .body in
+        = sym (x .fires .body) ∙ body-same (x .θ) (y .θ) (both-first .part) (both-first .back) (ruleTried t (x .tried) .body)
+        ∙ ap (λ (p : HeadPlace). bodyEntries (y .θ) (ruleAt t (p .rule) .body)) place ∙ y .fires .body in
         cc e
 
-    stack-same : τ .stack ≡ τ′ .stack
-    stack-same =
-        x .stack ∙ (λ k. C-same k ++ popIf (leb (length (ruleAt t (place k .rule) .kept)) (place k .head)) (entry-same t (x .tried) (y .tried) k)
-        (under-same t (x .tried) (y .tried) k)) ∙ sym (y .stack)
-
-    gone-same : drop (length (ruleTried t (x .tried) .kept)) (x .facts) ≡ drop (length (ruleTried t (y .tried) .kept)) (y .facts)
-    gone-same = λ k. drop (length (ruleAt t (place k .rule) .kept)) (both-first .same k)
-
+    -- the facts that are left are the same
     left-same : τ .store ≡ τ′ .store
     left-same =
-        let u = subst (λ (H : List Stored). Without H (σ .store) (τ .store)) gone-same (x .store) in
-        let v = y .store in
+        let f = subst (λ (p : HeadPlace). Fires t (σ .store) (τ .store) p (x .facts) (x .θ) (x .C)) place (x .fires) in
+        let u = subst (λ (ss : List Stored). Fires t (σ .store) (τ .store) (y .tried .place) ss (x .θ) (x .C)) (both-first .same) f .store in
+        let v = y .fires .store in
         rising-same 1 (τ .next) (τ′ .next) (τ .store) (τ′ .store) (x .listed) (y .listed)
         (λ s m. v .left s (u .taken s m) (u .apart s m)) (λ s m. u .left s (v .taken s m) (v .apart s m))
 
-    shot-same : τ ≡ τ′
-    shot-same =
-        state-same τ τ′ stack-same left-same (x .history ∙ (λ k. firing (place k) (both-first .same k) ∷ σ .history) ∙ sym (y .history))
-        (x .next ∙ sym (y .next))
+    shot-same : τ .stack ≡ τ′ .stack → τ ≡ τ′
+    shot-same e =
+        state-same τ τ′ e left-same (x .history ∙ (λ k. firing (place k) (both-first .same k) ∷ σ .history) ∙ sym (y .history)) (x .next ∙ sym (y .next))
 
   fires-one : Listed σ → (τ τ′ : State) → FiresFirst t σ τ → FiresFirst t σ τ′ → τ ≡ τ′
-  fires-one l τ τ′ f f′ = shot-same l τ τ′ (shot f) (shot f′)
+  fires-one l τ τ′ (simplifies s u i) (simplifies s′ u′ i′) =
+      let x = simplify-shot s u i in
+      let y = simplify-shot s′ u′ i′ in
+      let a = tries-same t (s .tried) (s′ .tried) in
+      let c : s .C ≡ s′ .C = C-same l τ τ′ x y in
+      shot-same l τ τ′ x y (rw (s .stack, s′ .stack, c, a .under))
+  fires-one l τ τ′ (simplifies s u i) (propagates s′ u′ i′) = absurd (simplify-not-propagate t σ τ τ′ s s′)
+  fires-one l τ τ′ (propagates s u i) (simplifies s′ u′ i′) = absurd (simplify-not-propagate t σ τ′ τ s′ s)
+  fires-one l τ τ′ (propagates s u i) (propagates s′ u′ i′) =
+      let x = propagate-shot s u i in
+      let y = propagate-shot s′ u′ i′ in
+      let a = tries-same t (s .tried) (s′ .tried) in
+      let c : s .C ≡ s′ .C = C-same l τ τ′ x y in
+      shot-same l τ τ′ x y (rw (s .stack, s′ .stack, c, a .symbol, a .id, a .j, a .under))
 
-  fires-rule : (τ τ′ : State) (f : FiresFirst t σ τ) (f′ : FiresFirst t σ τ′) → ruleFired t f ≡ ruleFired t f′
-  fires-rule τ τ′ f f′ =
-      shot-rule f ∙ ap (λ (p : HeadPlace). p .rule) (same-place t (shot f .tried) (shot f′ .tried)) ∙ sym (shot-rule f′)
+  fires-rule : (τ τ′ : State) (f : FiresFirst t σ τ) (f′ : FiresFirst t σ τ′) → ruleFired t f .0 ≡ ruleFired t f′ .0
+  fires-rule τ τ′ (simplifies s u i) (simplifies s′ u′ i′) = ap (λ (p : HeadPlace). p .rule .0) (same-place t (s .tried) (s′ .tried))
+  fires-rule τ τ′ (simplifies s u i) (propagates s′ u′ i′) = ap (λ (p : HeadPlace). p .rule .0) (same-place t (s .tried) (s′ .tried))
+  fires-rule τ τ′ (propagates s u i) (simplifies s′ u′ i′) = ap (λ (p : HeadPlace). p .rule .0) (same-place t (s .tried) (s′ .tried))
+  fires-rule τ τ′ (propagates s u i) (propagates s′ u′ i′) = ap (λ (p : HeadPlace). p .rule .0) (same-place t (s .tried) (s′ .tried))
 
   -- ---- the steps that are no firing
 
@@ -237,7 +230,7 @@ module _ (t : Table) (σ : State) where
       let under : s .step .under ≡ s′ .step .under = tail-same e in
       let u = subst (λ (f : Fact). SameSet (τ .store) (record { id = record { 0 = σ .next }; fact = f } ∷ σ .store)) c (s .step .store) in
       let v = s′ .step .store in
-      state-same τ τ′ (s .step .stack ∙ (λ k. activeEntry (c k .symbol) (record { 0 = σ .next }) 1 ∷ under k) ∙ sym (s′ .step .stack))
+      state-same τ τ′ (rw (s .step .stack, s′ .step .stack, c, under))
       (rising-same 1 (τ .next) (τ′ .next) (τ .store) (τ′ .store) (s .listed) (s′ .listed) (λ x m. v .1 x (u .0 x m)) (λ x m. u .1 x (v .0 x m)))
       (s .step .history ∙ sym (s′ .step .history)) (s .step .next ∙ sym (s′ .step .next))
 
@@ -247,8 +240,8 @@ module _ (t : Table) (σ : State) where
 
   defaults-one : (τ τ′ : State) → Default t σ τ → Default t σ τ′ → τ ≡ τ′
   defaults-one τ τ′ s s′ =
-      state-same τ τ′ (s .stack ∙ (λ k. next-same t (s .tried) (s′ .tried) k ∷ under-same t (s .tried) (s′ .tried) k) ∙ sym (s′ .stack))
-      (s .store ∙ sym (s′ .store)) (s .history ∙ sym (s′ .history)) (s .next ∙ sym (s′ .next))
+      let a = tries-same t (s .tried) (s′ .tried) in
+      state-same τ τ′ (rw (s .stack, s′ .stack, a .symbol, a .id, a .j, a .under)) (s .store ∙ sym (s′ .store)) (s .history ∙ sym (s′ .history)) (s .next ∙ sym (s′ .next))
 
   moves-one : (τ τ′ : State) → Moves t σ τ → Moves t σ τ′ → τ ≡ τ′
   moves-one τ τ′ (activates s) (activates s′) = enters-one τ τ′ s s′
@@ -327,7 +320,7 @@ module _ (t : Table) (σ : State) where
         let x = one-first t σ l (u .tried) (s .tried) True True (u .facts) (s .facts) (u .θ) (s .θ) (u .first) (s .first) true-false true-false in
         let e : none ≡ some (s .C)
         = sym (u .body) ∙ body-same (u .θ) (s .θ) (x .part) (x .back) (ruleTried t (u .tried) .body)
-        ∙ ap (λ (p : HeadPlace). bodyEntries (s .θ) (ruleAt t (p .rule) .body)) (same-place t (u .tried) (s .tried)) ∙ s .body in
+        ∙ ap (λ (p : HeadPlace). bodyEntries (s .θ) (ruleAt t (p .rule) .body)) (same-place t (u .tried) (s .tried)) ∙ s .fires .body in
         let w : _≡_ {A = ℕ} 0 1 = cc e in
         omega arith
 
@@ -347,9 +340,6 @@ module _ (t : Table) (σ : State) where
 
     abbrev Alike : ℕ → ℕ → ℕ → ℕ → Type 0
     Alike n p n′ p′ = (n ≡ n′) × (p ≡ p′)
-
-    fired-ruled : (τ τ′ : State) (f : FiresFirst t σ τ) (f′ : FiresFirst t σ τ′) → ruleFired t f .0 ≡ ruleFired t f′ .0
-    fired-ruled τ τ′ f f′ = ap (λ (n : RuleNumber). n .0) (fires-rule t σ τ τ′ f f′)
 
     two-above : (u : StackAbove t σ) (v : HistoryAbove t σ) → ⊥
     two-above u v = omega (arith, u .above, v .stack, stack-as-long (u .τ) (v .τ) (u .fires) (v .fires))
@@ -373,13 +363,13 @@ module _ (t : Table) (σ : State) where
     stops-one n p n′ p′ (stackAbove u) (undefined v) = absurd (undefined-not-true v (fires-tries (u .fires)))
     stops-one n p n′ p′ (stackAbove u) (noBody v) = absurd (body-not-fires (u .τ) v (u .fires))
     stops-one n p n′ p′ (stackAbove u) (storeFull v) = absurd (full-not-tries True v (fires-tries (u .fires)))
-    stops-one n p n′ p′ (stackAbove u) (stackAbove v) = (refl, fired-ruled (u .τ) (v .τ) (u .fires) (v .fires))
+    stops-one n p n′ p′ (stackAbove u) (stackAbove v) = (refl, fires-rule t σ (u .τ) (v .τ) (u .fires) (v .fires))
     stops-one n p n′ p′ (stackAbove u) (historyAbove v) = absurd (two-above u v)
     stops-one n p n′ p′ (historyAbove u) (undefined v) = absurd (undefined-not-true v (fires-tries (u .fires)))
     stops-one n p n′ p′ (historyAbove u) (noBody v) = absurd (body-not-fires (u .τ) v (u .fires))
     stops-one n p n′ p′ (historyAbove u) (storeFull v) = absurd (full-not-tries True v (fires-tries (u .fires)))
     stops-one n p n′ p′ (historyAbove u) (stackAbove v) = absurd (two-above v u)
-    stops-one n p n′ p′ (historyAbove u) (historyAbove v) = (refl, fired-ruled (u .τ) (v .τ) (u .fires) (v .fires))
+    stops-one n p n′ p′ (historyAbove u) (historyAbove v) = (refl, fires-rule t σ (u .τ) (v .τ) (u .fires) (v .fires))
 
   stops-kind : (n p : ℕ) → Stops t σ n p → (1 ≤ kind (σ .stack)) × (kind (σ .stack) ≤ 2)
   stops-kind n p (undefined u) = let e = tries-kind t σ (u .tried) in (omega (arith, e), omega (arith, e))

@@ -32,7 +32,7 @@ use Rattle.model.proofs.Results.{run-cases}
 use Rattle.semantics.specs.Refined.{Config, holds, failed, Step, solve, activate, drops, simplify, propagate, default, Derivation, stays, goes}
 use Rattle.semantics.specs.Refined.{firingIn, firingsIn}
 use Rattle.semantics.specs.Refined.{Solve}
-use Rattle.semantics.specs.Chosen.{Moves, activates, drops as drops-, defaults, FiresFirst, simplifies, propagates, held, Undefined, HistoryAbove}
+use Rattle.semantics.specs.Chosen.{Moves, activates, drops as drops-, defaults, FiresFirst, simplifies, propagates, Undefined, HistoryAbove}
 use Rattle.semantics.specs.Chosen.{Stops, undefined, noBody, storeFull, stackAbove, historyAbove, Chosen, done, fails, spent, stops, moves, fires}
 use Rattle.semantics.proofs.Following.{EntryIs, Follows}
 use Rattle.semantics.proofs.Steps.{FewHeads, seen, start-follows, Stopped, stopped, crowded, Taken}
