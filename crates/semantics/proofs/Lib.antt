@@ -12,5 +12,6 @@ pub mod Only
 pub mod Ends
 pub mod Steps
 pub mod Held
+pub mod Published
 pub mod Runs
 pub mod Located

@@ -1,158 +1,36 @@
 -- Every run, with its ending, is what document 01 chooses from its goal: step by step, by `step-held`. Since document 01 leaves no choice (Ends), it
--- is the only one: whatever is derived from the goal ends as the run does. What document 01 chooses is a derivation of the refined semantics: as many
--- transitions as steps, as many of them firings as firings, with the store and the next identifier of the result. One that ends in 0 ends in a state
--- with an empty stack, from which there is no transition; one that ends in 1 in a failed state.
-use Prim.Native.Nat.{ℕ, suc, _+_, _-_, _<_}
+-- is the only one: whatever is derived from the goal ends as the run does. So it is a derivation of the published relation too.
+use Prim.Native.Nat.{ℕ, suc, _-_, _<_}
 use native.Mathlib.Omega.{arith}
 use mathlib.Core.Path.{_≡_, refl, sym, _∙_, ap, subst}
-use mathlib.Core.List.{List, [], _∷_, map}
+use mathlib.Core.List.{List, []}
 use lib.ListN.{length}
 use borrow.Author.Tests.{leb-true, leb-false}
 use Rattle.model.specs.declared.Fact.{Fact}
 use Rattle.model.specs.declared.RuleNumber.{RuleNumber}
-use Rattle.model.specs.declared.Entry.{Entry}
 use Rattle.model.specs.declared.Verdict.the-variants.{Good}
 use Rattle.model.specs.Limits.{historyRoom}
 use Rattle.model.specs.Reading.{readOf}
 use Rattle.model.specs.Table.{Table, tableOf}
 use Rattle.model.specs.Search.{Fired}
-use Rattle.model.specs.Steps.{State, waiting, start, prunes, Outcome, moves as moves-, fires as fires-, fails as fails-, stops as stops-, stepItem}
+use Rattle.model.specs.Steps.{State, start, prunes, Outcome, moves as moves-, fires as fires-, fails as fails-, stops as stops-, stepItem}
 use Rattle.model.specs.Results.{Counts, noCounts}
 use Rattle.model.specs.Run.{Ended, endedAs, stepped, firedOnce, runFrom, run}
 use Rattle.model.specs.Keeping.{keepRun}
 use Rattle.model.specs.Goal.{goalOf}
 use Rattle.model.specs.Calls.{RunOutput, outputOf, runOf}
-use Rattle.model.proofs.Every.{every}
 use Rattle.model.proofs.Good.{good-table}
 use Rattle.model.proofs.Decoded.{every-heads-few}
 use Rattle.model.proofs.Loop.{run-done as run-empty, behindStep, every-run}
 use Rattle.model.proofs.Pruning.{pruning}
 use Rattle.model.proofs.Cut.{Unfinished, run-cut}
 use Rattle.model.proofs.Results.{run-cases}
-use Rattle.semantics.specs.Refined.{Config, holds, failed, Step, solve, activate, drops, simplify, propagate, default, Derivation, stays, goes}
-use Rattle.semantics.specs.Refined.{firingIn, firingsIn}
-use Rattle.semantics.specs.Refined.{Solve}
-use Rattle.semantics.specs.Chosen.{Moves, activates, drops as drops-, defaults, FiresFirst, simplifies, propagates, Undefined, HistoryAbove}
-use Rattle.semantics.specs.Chosen.{Stops, undefined, noBody, storeFull, stackAbove, historyAbove, Chosen, done, fails, spent, stops, moves, fires}
-use Rattle.semantics.proofs.Following.{EntryIs, Follows}
+use Rattle.semantics.specs.Chosen.{HistoryAbove, historyAbove, Chosen, done, fails, spent, stops, moves, fires}
+use Rattle.semantics.proofs.Following.{Follows}
 use Rattle.semantics.proofs.Steps.{FewHeads, seen, start-follows, Stopped, stopped, crowded, Taken}
 use Rattle.semantics.proofs.Held.{Held, held-length, start-held, step-held}
 use Rattle.semantics.proofs.Ends.{one-end}
-
-module _ (t : Table) where
-  -- ---- final states
-
-  module _ (σ : State) (e : σ .stack ≡ []) where
-    stack-empty : (x : Entry) (xs : List Entry) → σ .stack ≡ x ∷ xs → ⊥
-    stack-empty x xs q = let w : _≡_ {A = ℕ} 0 1 = cc in omega arith
-
-    pub done-final : (κ : Config) → Step t (holds σ) κ → ⊥
-    done-final κ (solve s) = stack-empty (s .c) _ (s .top)
-    done-final κ (activate s) = stack-empty (waiting (s .c)) (s .under) (s .top)
-    done-final κ (drops s) = stack-empty _ _ (s .top)
-    done-final κ (simplify s) = stack-empty _ _ (s .tried .top)
-    done-final κ (propagate s) = stack-empty _ _ (s .tried .top)
-    done-final κ (default s) = stack-empty _ _ (s .tried .top)
-
-  pub failed-final : (σ : State) (κ : Config) → Step t (failed σ) κ → ⊥
-  failed-final σ κ s = elim s [ ]
-
--- ---- what a run's ending says of the last state
-
-abbrev pub stateOf : Config → State
-stateOf (holds σ) = σ
-stateOf (failed σ) = σ
-
--- n is the ending's number
-abbrev pub EndsIn : Table → ℕ → Config → Type 0
-EndsIn t n (holds σ) = (n ≡ 1 → ⊥) × (n ≡ 0 → σ .stack ≡ []) × (n ≡ 3 → Undefined t σ)
-EndsIn t n (failed σ) = n ≡ 1
-
--- from σ, behind what c counts
-pub record Derives (t : Table) (σ : State) (c : Counts) (r : Ended) : Type 0 where
-  pub more : ℕ
-  pub last : Config
-  pub derivation : Derivation t (holds σ) more last
-  pub steps : r .result .steps ≡ c .steps + more
-  pub firings : r .result .firings ≡ c .firings + firingsIn derivation
-  pub store : r .store ≡ stateOf last .store
-  pub identifiers : r .result .identifiers ≡ stateOf last .next - 1
-  pub ends : EndsIn t (r .result .number) last
-
-module _ (t : Table) where
-  -- ---- what document 01 chooses is a derivation of the published relation
-
-  -- one that ends at once
-  at-once : (σ : State) (n p : ℕ) (c : Counts) → EndsIn t n (holds σ) → Derives t σ c (endedAs n p c σ)
-  unfolding endedAs firingsIn
-  at-once σ n p c u = record {
-    more = 0;
-    last = holds σ;
-    derivation = stays;
-    steps = omega arith;
-    firings = omega arith;
-    store = refl;
-    identifiers = refl;
-    ends = u;
-  }
-
-  -- one that fails
-  at-fail : (σ τ : State) (c : Counts) → Solve t σ τ → Derives t σ c (endedAs 1 0 (stepped c) τ)
-  unfolding endedAs firingsIn firingIn
-  at-fail σ τ c s = record {
-    more = 1;
-    last = failed τ;
-    derivation = goes (solve s) stays;
-    steps = omega arith;
-    firings = omega arith;
-    store = refl;
-    identifiers = refl;
-    ends = refl;
-  }
-
-  -- one transition before the others
-  before : (σ τ : State) (c d : Counts) (r : Ended) (s : Step t (holds σ) (holds τ)) → d .steps ≡ suc (c .steps) → d .firings ≡ firingIn s + c .firings
-      → Derives t τ d r → Derives t σ c r
-  unfolding firingsIn
-  before σ τ c d r s e f x = record {
-    more = suc (x .more);
-    last = x .last;
-    derivation = goes s (x .derivation);
-    steps = omega (arith, x .steps);
-    firings = omega (arith, x .firings);
-    store = x .store;
-    identifiers = x .identifiers;
-    ends = x .ends;
-  }
-
-  moves-derive : (σ τ : State) (c : Counts) (r : Ended) → Moves t σ τ → Derives t τ (stepped c) r → Derives t σ c r
-  unfolding firingIn
-  moves-derive σ τ c r (activates s) d = before σ τ c (stepped c) r (activate (s .step)) refl (omega arith) d
-  moves-derive σ τ c r (drops- s) d = before σ τ c (stepped c) r (drops s) refl (omega arith) d
-  moves-derive σ τ c r (defaults s) d = before σ τ c (stepped c) r (default (s .step)) refl (omega arith) d
-
-  fires-derive : (σ τ : State) (c : Counts) (r : Ended) → FiresFirst t σ τ → Derives t τ (firedOnce c) r → Derives t σ c r
-  unfolding firingIn
-  fires-derive σ τ c r (simplifies s u l) d = before σ τ c (firedOnce c) r (simplify s) refl (omega arith) d
-  fires-derive σ τ c r (propagates s u l) d = before σ τ c (firedOnce c) r (propagate s) refl (omega arith) d
-
-  no : {A : Type 0} {n : ℕ} (m : ℕ) → (n ≡ m → ⊥) → n ≡ m → A
-  no m h e = absurd (h e)
-
-  stops-end : (σ : State) (n p : ℕ) → Stops t σ n p → EndsIn t n (holds σ)
-  stops-end σ n p (undefined u) = (λ e. omega (arith, e), no 0 (λ e. omega (arith, e)), λ e. u)
-  stops-end σ n p (noBody u) = (λ e. omega (arith, e), no 0 (λ e. omega (arith, e)), no 3 (λ e. omega (arith, e)))
-  stops-end σ n p (storeFull u) = (λ e. omega (arith, e), no 0 (λ e. omega (arith, e)), no 3 (λ e. omega (arith, e)))
-  stops-end σ n p (stackAbove u) = (λ e. omega (arith, e), no 0 (λ e. omega (arith, e)), no 3 (λ e. omega (arith, e)))
-  stops-end σ n p (historyAbove u) = (λ e. omega (arith, e), no 0 (λ e. omega (arith, e)), no 3 (λ e. omega (arith, e)))
-
-  pub chosen-derives : {left : ℕ} {c : Counts} {σ : State} {r : Ended} → Chosen t left c σ r → Derives t σ c r
-  chosen-derives (done {c = c} {σ = σ} e) = at-once σ 0 0 c (λ x. omega (arith, x), λ x. e, no 3 (λ x. omega (arith, x)))
-  chosen-derives (fails {c = c} {σ = σ} {τ = τ} s) = at-fail σ τ c s
-  chosen-derives (spent {c = c} {σ = σ} e) = at-once σ 2 0 c (λ x. omega (arith, x), no 0 (λ x. omega (arith, x)), no 3 (λ x. omega (arith, x)))
-  chosen-derives (stops {c = c} {σ = σ} {n = n} {p = p} s) = at-once σ n p c (stops-end σ n p s)
-  chosen-derives (moves {c = c} {σ = σ} {τ = τ} {r = r} s d) = moves-derive σ τ c r s (chosen-derives d)
-  chosen-derives (fires {c = c} {σ = σ} {τ = τ} {r = r} s f d) = fires-derive σ τ c r s (chosen-derives d)
+use Rattle.semantics.proofs.Published.{Derives, chosen-derives, Done, Failed, done-is, failed-is}
 
 module _ (t : Table) (few : FewHeads t) where
   -- ---- every run is what document 01 chooses
@@ -225,60 +103,12 @@ module _ (t : Table) (few : FewHeads t) where
       keep-derives goal (run t limit (start goal) .result .steps)
       (λ e. omega (arith, e, ap (λ (r : Ended). r .result .number) (run-cut t limit (start goal) u)))
 
-  -- ---- the endings 0 and 1: a whole derivation
+  -- one that ends in 0 or 1 is a whole derivation
+  pub run-done : (goal : List Fact) (limit : ℕ) → run t limit (start goal) .result .number ≡ 0 → Done t goal (run t limit (start goal))
+  run-done goal limit z = let d = run-published goal limit in done-is t goal (run t limit (start goal)) d z (d .last) refl
 
-  pub record Done (goal : List Fact) (r : Ended) : Type 0 where
-    pub σ : State
-    pub derivation : Derivation t (holds (start goal)) (r .result .steps) (holds σ)
-    pub firings : r .result .firings ≡ firingsIn derivation
-    pub empty : σ .stack ≡ []
-    pub store : r .store ≡ σ .store
-    pub final : (κ : Config) → Step t (holds σ) κ → ⊥
-
-  pub record Failed (goal : List Fact) (r : Ended) : Type 0 where
-    pub σ : State
-    pub derivation : Derivation t (holds (start goal)) (r .result .steps) (failed σ)
-    pub firings : r .result .firings ≡ firingsIn derivation
-    pub store : r .store ≡ σ .store
-    pub final : (κ : Config) → Step t (failed σ) κ → ⊥
-
-  module _ (goal : List Fact) (r : Ended) (d : Derives t (start goal) noCounts r) where
-    abbrev Counted : ℕ → Config → Type 0
-    Counted n κ = (x : Derivation t (holds (start goal)) n κ) × (r .result .firings ≡ firingsIn x)
-
-    whole : (κ : Config) → d .last ≡ κ → Counted (r .result .steps) κ
-    whole κ e =
-        let n : d .more ≡ r .result .steps = omega (arith, d .steps) in
-        subst (λ (m : ℕ). Counted m κ) n (subst (Counted (d .more)) e (d .derivation, omega (arith, d .firings)))
-
-    done-is : r .result .number ≡ 0 → (κ : Config) → d .last ≡ κ → Done goal r
-    done-is z (holds σ) e =
-        let u = subst (EndsIn t (r .result .number)) e (d .ends) in
-        record {
-          σ = σ;
-          derivation = whole (holds σ) e .0;
-          firings = whole (holds σ) e .1;
-          empty = u .1 z;
-          store = d .store ∙ ap (λ (κ : Config). stateOf κ .store) e;
-          final = done-final t σ (u .1 z);
-        }
-    done-is z (failed σ) e = absurd (omega (arith, subst (EndsIn t (r .result .number)) e (d .ends), z))
-
-    failed-is : r .result .number ≡ 1 → (κ : Config) → d .last ≡ κ → Failed goal r
-    failed-is z (holds σ) e = absurd (subst (EndsIn t (r .result .number)) e (d .ends) .0 z)
-    failed-is z (failed σ) e = record {
-      σ = σ;
-      derivation = whole (failed σ) e .0;
-      firings = whole (failed σ) e .1;
-      store = d .store ∙ ap (λ (κ : Config). stateOf κ .store) e;
-      final = failed-final t σ;
-    }
-
-  pub run-done : (goal : List Fact) (limit : ℕ) → run t limit (start goal) .result .number ≡ 0 → Done goal (run t limit (start goal))
-  run-done goal limit z = let d = run-published goal limit in done-is goal (run t limit (start goal)) d z (d .last) refl
-
-  pub run-failed : (goal : List Fact) (limit : ℕ) → run t limit (start goal) .result .number ≡ 1 → Failed goal (run t limit (start goal))
-  run-failed goal limit z = let d = run-published goal limit in failed-is goal (run t limit (start goal)) d z (d .last) refl
+  pub run-failed : (goal : List Fact) (limit : ℕ) → run t limit (start goal) .result .number ≡ 1 → Failed t goal (run t limit (start goal))
+  run-failed goal limit z = let d = run-published goal limit in failed-is t goal (run t limit (start goal)) d z (d .last) refl
 
 -- a good table's rules have at most four heads
 pub good-few : (t : List ℕ) → readOf t .verdict ≡ Good → FewHeads (tableOf t)

@@ -65,6 +65,14 @@ start-follows t goal = record { rising = omega arith; entries = all goal; keeps 
     all [] = tt
     all (f ∷ goal) = (refl, all goal)
 
+-- an ending where the step is not taken has a number from 3 on
+pub stops-number : (t : Table) (σ : State) (n p : ℕ) → Stops t σ n p → 3 ≤ n
+stops-number t σ n p (undefined u) = omega arith
+stops-number t σ n p (noBody u) = omega arith
+stops-number t σ n p (storeFull u) = omega arith
+stops-number t σ n p (stackAbove u) = omega arith
+stops-number t σ n p (historyAbove u) = omega arith
+
 -- ---- what each outcome of a step comes to
 
 abbrev pub Knows : Type 1
@@ -90,15 +98,8 @@ module _ (t : Table) (K : Knows) (st : State) (T : List Fired) where
   Taken m fails = (σ : State) × Solve t (seen st T) σ
   Taken m (stops n p) = Stopped m n p
 
-  stops-number : (n p : ℕ) → Stops t (seen st T) n p → 3 ≤ n
-  stops-number n p (undefined u) = omega arith
-  stops-number n p (noBody u) = omega arith
-  stops-number n p (storeFull u) = omega arith
-  stops-number n p (stackAbove u) = omega arith
-  stops-number n p (historyAbove u) = omega arith
-
   pub stopped-number : (m : Memory) (n p : ℕ) → Stopped m n p → 3 ≤ n
-  stopped-number m n p (stopped u) = stops-number n p u
+  stopped-number m n p (stopped u) = stops-number t (seen st T) n p u
   stopped-number m n p (crowded r next f l e) = omega arith
 
 -- nothing else is known

@@ -30,7 +30,7 @@ use Rattle.semantics.specs.Refined.{Trying, ruleTried, Solve, Activate, 
 abbrev pub Listed : State → Type 0
 Listed σ = Rising 1 (σ .next) (σ .store)
 
--- ---- document 01's history, of the firings of T: the relation's T keeps every firing
+-- ---- what document 01's history holds of T, in which the relation keeps every firing
 
 abbrev pub removesNone : List Head → Bool
 removesNone [] = true
@@ -93,7 +93,7 @@ module _ (t : Table) where
     pub stack : length (τ .stack) ≤ stackRoom
     pub history : length (held (τ .store) (τ .history)) ≤ historyRoom
 
-  -- ---- the endings that a step left does not prevent, each where the step is not taken
+  -- ---- the endings at a step that is left and is not taken
 
   -- 3: "guard undefined"
   pub record Undefined (σ : State) : Type 0 where
@@ -130,7 +130,7 @@ module _ (t : Table) where
     pub stack : length (τ .stack) ≤ stackRoom
     pub above : historyRoom < length (held (τ .store) (τ .history))
 
-  -- with its number and its place: the rule, or 0
+  -- each with its number and its place: the rule, or 0
   pub data Stops (σ : State) : ℕ → ℕ → Type 0 where
     undefined : (u : Undefined σ) → Stops σ 3 (u .tried .place .rule .0)
     noBody : (u : NoBody σ) → Stops σ 4 (u .tried .place .rule .0)
