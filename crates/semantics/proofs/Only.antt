@@ -241,7 +241,8 @@ module _ (t : Table) (σ : State) where
   defaults-one : (τ τ′ : State) → Default t σ τ → Default t σ τ′ → τ ≡ τ′
   defaults-one τ τ′ s s′ =
       let a = tries-same t (s .tried) (s′ .tried) in
-      state-same τ τ′ (rw (s .stack, s′ .stack, a .symbol, a .id, a .j, a .under)) (s .store ∙ sym (s′ .store)) (s .history ∙ sym (s′ .history)) (s .next ∙ sym (s′ .next))
+      state-same τ τ′ (rw (s .stack, s′ .stack, a .symbol, a .id, a .j, a .under)) (s .store ∙ sym (s′ .store))
+      (s .history ∙ sym (s′ .history)) (s .next ∙ sym (s′ .next))
 
   moves-one : (τ τ′ : State) → Moves t σ τ → Moves t σ τ′ → τ ≡ τ′
   moves-one τ τ′ (activates s) (activates s′) = enters-one τ τ′ s s′
