@@ -156,7 +156,8 @@ module _ (input : List ℕ) where
   never-from (suc n) m s shapes left enough = go (never-from n) (leb (length tablePart) (s .at)) refl
     where
       go : NeverFrom n → (b : Bool) → leb (length tablePart) (s .at) ≡ b
-          → Fine (goOn tablePart s shapes (readFrom n tablePart) (cond b (Stop 17 (length tablePart)) (testedOf tablePart s (kindOf (getD tablePart (s .at) 0)))))
+          → Fine (goOn tablePart s shapes (readFrom n tablePart)
+          (cond b (Stop 17 (length tablePart)) (testedOf tablePart s (kindOf (getD tablePart (s .at) 0)))))
       go ih true e = other-number 17 (length tablePart) (s .symbols) (s .rules) shapes (omega arith)
       go ih false e =
           step-never n m s shapes left enough (leb-false (length tablePart) (s .at) e) ih
