@@ -125,6 +125,13 @@ pub fn longest_case(random: &mut Random) -> Case {
     Case::run(plan.bytes(), goal, plan.most_steps, ANSWER_LEN)
 }
 
+/// `a ==> b, b` with so many facts `a`: document 01's worked run without a star has 42 and 43.
+pub fn two_for_one_case(facts: usize) -> Case {
+    let rule = Rule::new().keep(0, &[]).add(1, &[]).add(1, &[]);
+    let goal = build::goal(&vec![(0, &[][..]); facts]);
+    Case::run(build::table(&[0, 0], &[rule]), goal, 1_000_000, ANSWER_LEN)
+}
+
 /// A run that is refused, mostly by its goal, limit or answer buffer.
 pub fn refused_run_case(random: &mut Random) -> Case {
     let style = Style::any(random);

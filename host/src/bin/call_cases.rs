@@ -131,11 +131,12 @@ fn check_cases() -> Vec<Case> {
     found
 }
 
-/// Random runs, then a few of the longest table.
+/// Random runs, then a few of the longest table, then document 01's own run without a star.
 fn run_cases() -> Vec<Case> {
     let mut found = pick(4, RUN, cases::run_case);
     let mut random = Random::new(SEED);
     found.extend((0..3).map(|_| cases::longest_case(&mut random)));
+    found.extend([42, 43].map(cases::two_for_one_case));
     found
 }
 
