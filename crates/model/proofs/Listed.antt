@@ -23,7 +23,7 @@ use Rattle.model.proofs.Decoded.{PlaceIn, places-in}
 abbrev pub Before : HeadPlace → HeadPlace → Type 0
 Before p q = (p .rule .0 < q .rule .0) ⊎ ((p .rule .0 ≡ q .rule .0) × (q .head < p .head))
 
--- p stands at index i of l
+-- x stands at index i of l
 abbrev pub StandsAt : {A : Type 0} → List A → ℕ → A → Type 0
 StandsAt l i x = getElem? l i ≡ some x
 
