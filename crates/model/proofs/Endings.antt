@@ -52,31 +52,32 @@ module _ {t : Table} where
 
 -- ---- a step
 
+-- an ending without a step is one of 3 to 7
 abbrev pub StopsWith : Table → Outcome → Type 0
 StopsWith t (moves st) = Unit {0}
 StopsWith t (fires st) = Unit {0}
 StopsWith t fails = Unit {0}
-StopsWith t (stops n p) = EndsWith t n p
+StopsWith t (stops n p) = (3 ≤ n) × EndsWith t n p
 
 module _ (m : Memory) (t : Table) (st : State) (e : Entry) (es : List Entry) where
   history-ends : (b : Bool) (n : RuleNumber) (after : State) → n .0 < length (t .rules) → StopsWith t (withinHistory b n after)
   history-ends true n after h = tt
-  history-ends false n after h = at-rule 7 (n .0) (omega arith) refl h
+  history-ends false n after h = (omega arith, at-rule 7 (n .0) (omega arith) refl h)
 
   stack-ends : (b : Bool) (n : RuleNumber) (after : State) → n .0 < length (t .rules) → StopsWith t (withinStack m b n after)
   stack-ends true n after h = history-ends (m .fits (after .history)) n after h
-  stack-ends false n after h = at-rule 6 (n .0) (omega arith) refl h
+  stack-ends false n after h = (omega arith, at-rule 6 (n .0) (omega arith) refl h)
 
   body-ends : (p : HeadPlace) (chosen : List FactId) → p .rule .0 < length (t .rules) → (o : Option (List Entry))
       → StopsWith t (withBody m t st e es p chosen o)
-  body-ends p chosen h none = at-rule 4 (p .rule .0) (omega arith) refl h
+  body-ends p chosen h none = (omega arith, at-rule 4 (p .rule .0) (omega arith) refl h)
   body-ends p chosen h (some body) =
       let after : State = fired m st e es p (ruleAt t (p .rule)) chosen body in
       stack-ends (leb (length (after .stack)) stackRoom) (p .rule) after h
 
   found-ends : (i : FactId) (j : ℕ) (p : HeadPlace) → p .rule .0 < length (t .rules) → (o : Found) → StopsWith t (withFound m t st e es i j p o)
   found-ends i j p h nothing = tt
-  found-ends i j p h undefinedGuard = at-rule 3 (p .rule .0) (omega arith) refl h
+  found-ends i j p h undefinedGuard = (omega arith, at-rule 3 (p .rule .0) (omega arith) refl h)
   found-ends i j p h (applies chosen b) = body-ends p chosen h (bodyEntries b (ruleAt t (p .rule) .body))
 
   place-ends : (i : FactId) (j k : ℕ) (o : Option HeadPlace) → OptionIs (λ p. PlaceIn t (e .symbol) p × (k < length (places t (e .symbol)))) o
@@ -86,7 +87,7 @@ module _ (m : Memory) (t : Table) (st : State) (e : Entry) (es : List Entry) whe
 
   activate-ends : (f : Fact) (b : Bool) → StopsWith t (activate st e es f b)
   activate-ends f true = tt
-  activate-ends f false = at-none 5 (omega arith) refl
+  activate-ends f false = (omega arith, at-none 5 (omega arith) refl)
 
   pub step-ends : (it : Item) → StopsWith t (stepWith m t st e es it)
   unfolding stepWith
@@ -108,7 +109,7 @@ module _ (t : Table) where
   behind-ends limit c st ih (moves next) u = ih (stepped c) next
   behind-ends limit c st ih (fires next) u = ih (firedOnce c) next
   behind-ends limit c st ih fails u = at-none 1 (omega arith) refl
-  behind-ends limit c st ih (stops n p) u = u
+  behind-ends limit c st ih (stops n p) u = u .1
 
   -- Every run, from any state.
   pub run-ends : (limit : ℕ) (st : State) → EndsWith t (run t limit st .result .number) (run t limit st .result .place)

@@ -362,7 +362,7 @@ module _ (t : Table) (r : TableRanged t) where
   behind-kept limit c st z ih fails u v =
       end-kept t (suc limit) c (stepped c) st z 1 0 (at-none 1 (omega arith) refl) (omega arith) (omega arith) refl
   behind-kept limit c st z ih (stops n p) u v =
-      end-kept t (suc limit) c c st z n p v (omega arith) (omega arith) refl
+      end-kept t (suc limit) c c st z n p (v .1) (omega arith) (omega arith) refl
 
   -- Every result of a run.
   pub run-kept : (goal : List Fact) → length goal ≤ mostGoalFacts → every FactRanged goal → (limit : ℕ)
