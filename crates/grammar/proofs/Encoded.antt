@@ -230,7 +230,7 @@ unfolding itemTree laidItem
 item-back (fact s es) few = ap (fact s) (used-back expressionOf noExpression formulasIn formula-back none-back 4 es few)
 item-back fail few = refl
 
-map-back : {A B : Type 0} (lay : A → B) (back : B → A) (Few : A → Type 0) → ((x : A) → Few x → back (lay x) ≡ x) → (xs : List A) → every Few xs
+pub map-back : {A B : Type 0} (lay : A → B) (back : B → A) (Few : A → Type 0) → ((x : A) → Few x → back (lay x) ≡ x) → (xs : List A) → every Few xs
     → map back (map lay xs) ≡ xs
 map-back lay back Few one [] u = refl
 map-back lay back Few one (x ∷ xs) u = rw (one x (u .0), map-back lay back Few one xs (u .1))

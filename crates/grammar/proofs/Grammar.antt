@@ -57,11 +57,11 @@ unfolding eachBytes
 written-none bytes Fit t p q e = record { same = same-none t p; ends = omega arith; good = tt }
 
 -- rows of one size
-rows-long : {A B : Type 0} (at : ℕ → B) (size : ℕ) (back : B → A) (p n : ℕ) → length (map back (rowsAt at size p n)) ≡ n
+pub rows-long : {A B : Type 0} (at : ℕ → B) (size : ℕ) (back : B → A) (p n : ℕ) → length (map back (rowsAt at size p n)) ≡ n
 rows-long at size back p zero = refl
 rows-long at size back p (suc n) = ap suc (rows-long at size back (p + size) n)
 
-rows-written : {A B : Type 0} (bytes : A → List ℕ) (size : ℕ) (lay : A → B) (t : List ℕ) (at : ℕ → B) → ((x : A) → length (bytes x) ≡ size)
+pub rows-written : {A B : Type 0} (bytes : A → List ℕ) (size : ℕ) (lay : A → B) (t : List ℕ) (at : ℕ → B) → ((x : A) → length (bytes x) ≡ size)
     → (Fit : A → Type 0) (back : B → A) (p n : ℕ) → ((i : ℕ) → i < n → Same t (p + size * i) (bytes (back (at (p + size * i)))))
     → ((i : ℕ) → i < n → Fit (back (at (p + size * i)))) → Written bytes Fit t p (p + size * n) (map back (rowsAt at size p n))
 rows-written bytes size lay t at long Fit back p n same fit = record {
@@ -277,7 +277,7 @@ module _ (t : List ℕ) (u : AreBytes t) (arities : List ℕ) (declared : (k : �
 
 -- ---- the whole table
 
-module _ (t : List ℕ) (u : AreBytes t) (e : readOf t .verdict ≡ Good) where
+module _ (t : List ℕ) (e : readOf t .verdict ≡ Good) where
   good : GoodTable t
   good = good-table t e
 
@@ -291,29 +291,33 @@ module _ (t : List ℕ) (u : AreBytes t) (e : readOf t .verdict ≡ Good) where
       rw (z (readOf t .symbols)) at
       (symbols-written t 0 (readOf t .symbols) (λ i h. rw (z i) (whole .symbols i h)) (λ i h. rw (z i) (whole .arities i h)))
 
-  symbols : length (aritiesOf t) ≡ readOf t .symbols
+  pub arities-count : length (aritiesOf t) ≡ readOf t .symbols
   unfolding aritiesOf
-  symbols = arities-long t 0 (readOf t .symbols)
+  arities-count = arities-long t 0 (readOf t .symbols)
 
-  declared-of : (k : ℕ) → k < length (aritiesOf t) → arityAt t k ≡ getD (aritiesOf t) k 0
+  pub arities-declared : (k : ℕ) → k < length (aritiesOf t) → arityAt t k ≡ getD (aritiesOf t) k 0
   unfolding aritiesOf
-  declared-of k h =
+  arities-declared k h =
       let n : length (aritiesFrom t 0 (readOf t .symbols)) ≡ readOf t .symbols = arities-long t 0 (readOf t .symbols) in
       let z : 0 + k ≡ k = omega arith in
       sym (rw z at (arities-at t 0 (readOf t .symbols) k (omega arith)))
 
-  table-written : Written ruleBytes (RuleGood (aritiesOf t)) t (2 * readOf t .symbols) (whole .last) (treeOf t .rules)
+  pub arities-small : every (λ (a : ℕ). a ≤ 4) (aritiesOf t)
+  arities-small = arities-written .good
+
+module _ (t : List ℕ) (u : AreBytes t) (e : readOf t .verdict ≡ Good) where
+  table-written : Written ruleBytes (RuleGood (aritiesOf t)) t (2 * readOf t .symbols) (whole t e .last) (treeOf t .rules)
   unfolding treeOf tableOf tableBy
   table-written =
-      rules-written t u (aritiesOf t) declared-of (arities-written .good) (take (readOf t .rules) (readOf t .shapes)) (2 * readOf t .symbols) (whole .last)
-      (rw symbols (every-shape t good)) (rw symbols (whole .rules))
+      rules-written t u (aritiesOf t) (arities-declared t e) (arities-small t e) (take (readOf t .rules) (readOf t .shapes)) (2 * readOf t .symbols) (whole t e .last)
+      (rw (arities-count t e) (every-shape t (good t e))) (rw (arities-count t e) (whole t e .rules))
 
   tree-formed : WellFormed (treeOf t)
   unfolding treeOf
   tree-formed = record {
-    fewSymbols = omega (arith, symbols, good .fewSymbols);
-    arities = arities-written .good;
-    fewRules = omega (arith, length-map (tableOf t .rules) ruleTree, rules-few t good);
+    fewSymbols = omega (arith, arities-count t e, good t e .fewSymbols);
+    arities = arities-small t e;
+    fewRules = omega (arith, length-map (tableOf t .rules) ruleTree, rules-few t (good t e));
     rules = table-written .good;
   }
 
@@ -322,15 +326,15 @@ module _ (t : List ℕ) (u : AreBytes t) (e : readOf t .verdict ≡ Good) where
   tree-bytes =
       let x = eachBytes symbolBytes (aritiesOf t) in
       let y = eachBytes ruleBytes (treeOf t .rules) in
-      let ex : 0 + length x ≡ 2 * readOf t .symbols = arities-written .ends in
-      let ey : 2 * readOf t .symbols + length y ≡ whole .last = table-written .ends in
-      let last : length t ≡ suc (whole .last) = whole .long in
+      let ex : 0 + length x ≡ 2 * readOf t .symbols = arities-written t e .ends in
+      let ey : 2 * readOf t .symbols + length y ≡ whole t e .last = table-written .ends in
+      let last : length t ≡ suc (whole t e .last) = whole t e .long in
       same-whole t (x ++ (y ++ (8 ∷ []))) (omega (arith, length-append x (y ++ (8 ∷ [])), length-append y (8 ∷ [])))
-      (same-both t 0 x (y ++ (8 ∷ [])) (arities-written .same)
+      (same-both t 0 x (y ++ (8 ∷ [])) (arities-written t e .same)
       (same-at t (2 * readOf t .symbols) (0 + length x) (y ++ (8 ∷ [])) (sym ex)
       (same-both t (2 * readOf t .symbols) y (8 ∷ []) (table-written .same)
-      (same-at t (whole .last) (2 * readOf t .symbols + length y) (8 ∷ []) (sym ey)
-      (same-more t (whole .last) 8 [] (whole .ends) (same-none t (whole .last + 1)))))))
+      (same-at t (whole t e .last) (2 * readOf t .symbols + length y) (8 ∷ []) (sym ey)
+      (same-more t (whole t e .last) 8 [] (whole t e .ends) (same-none t (whole t e .last + 1)))))))
 
 -- ---- the theorem
 

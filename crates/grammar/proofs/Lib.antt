@@ -7,3 +7,4 @@ pub mod Parts
 pub mod Reading
 pub mod Encoded
 pub mod Grammar
+pub mod Goals

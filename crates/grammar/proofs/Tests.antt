@@ -34,7 +34,7 @@ SlotHeld (Constant z) = InRange z
 SlotHeld (Variable v) = v ≤ 15
 SlotHeld Bad = Unit {0}
 
-no-test : {X : Type 0} → true ≡ false → X
+pub no-test : {X : Type 0} → true ≡ false → X
 no-test e = absurd (let z : _≡_ {A = ℕ} 0 1 = cc in omega arith)
 
 pub term-used : (a : Term) → placeBad true (slotOf a) ≡ false
