@@ -3,17 +3,17 @@
 use Prim.Native.Nat.{ℕ, zero, suc, _+_, _*_, _/_, _%_, _≤_, _<_}
 use mathlib.Core.Path.{_≡_, refl, sym, ap, _∙_, subst}
 use mathlib.Core.Logic.{_↔_}
-use mathlib.Core.Bool.{Bool, true, false, cond, not, _&&_, _||_}
-use mathlib.Core.List.{List, [], _∷_, _++_, map}
+use mathlib.Core.Bool.{Bool, true, false, not, _&&_}
+use mathlib.Core.List.{List, [], _∷_, map}
 use native.Mathlib.Omega.{arith}
 use native.Mathlib.Nat.{mul-suc}
 use lib.Dec.{ltb, leb, eqb}
 use lib.IntN.{ℤ, pos}
 use lib.ListN.{length, getD, take, replicate, length-map}
 use lib.Seq.{length-take-le}
-use borrow.Author.Tests.{lt-leb, le-leb, lt-ltb, le-ltb, eq-eqb, ltb-true, ltb-false}
+use borrow.Author.Tests.{lt-leb, le-leb, ltb-true, ltb-false}
 use Rattle.numbers.specs.Laws.{InRange, in-range-fits, fits-in-range}
-use Rattle.wire.specs.Wire.{u32At, i32At, signedOf, bitsOf, bytes4}
+use Rattle.wire.specs.Wire.{u32At, i32At, signedOf, bitsOf}
 use Rattle.wire.specs.Laws.{bits-below, signed-bits, signed-fits, signed-low}
 use Rattle.model.specs.declared.Fact.{Fact}
 use Rattle.model.specs.declared.Verdict.{Verdict}
@@ -24,7 +24,6 @@ use Rattle.model.specs.Matching.{arguments}
 use Rattle.model.specs.Table.{symbolAt}
 use Rattle.model.specs.Goal.{factAt, factsFrom, laterBad, laterPlacesBad, goalFactBad, factsVerdict, goalVerdict, goalOf}
 use Rattle.model.proofs.Every.{every, every-take}
-use Rattle.model.proofs.Lists.{or-both}
 use Rattle.model.proofs.Ranges.{AreBytes}
 use Rattle.model.proofs.Good.{WholeGoal, whole-goal}
 use Rattle.model.proofs.Decoded.{facts-length}
@@ -38,8 +37,9 @@ use Rattle.grammar.proofs.Slots.{below, bits-at}
 use Rattle.grammar.proofs.Places.{rowsAt, usedBad, four-used, places-long, places-decode, places-encode, laid-used}
 use Rattle.grammar.proofs.Tests.{no-test}
 use Rattle.grammar.proofs.Parts.{each-long, each-decode, uses-few}
+use Rattle.grammar.proofs.Bytes.{goal-encoding-bytes}
 use Rattle.grammar.proofs.Encoded.{map-back}
-use Rattle.grammar.proofs.Grammar.{Written, rows-written, arities-count, arities-declared, arities-small}
+use Rattle.grammar.proofs.Grammar.{Written, rows-written, arities-count, arities-few, arities-declared, arities-small}
 
 -- ---- arguments
 
@@ -136,7 +136,8 @@ module _ (g : List ℕ) (p : ℕ) (f : GoalFact) (s : Same g p (goalFactBytes f)
   arguments-at : every InRange (f .arguments) → arguments (factAt g p) ≡ laidPlaces itself (pos 0) 4 (f .arguments)
   arguments-at r =
       fact-arguments g p
-      ∙ places-decode argumentBytes 4 itself (pos 0) g (i32At g) argument-long InRange (argument-decodes g) (zero-decodes g) (p + 2) 4 (f .arguments) r places-at
+      ∙ places-decode argumentBytes 4 itself (pos 0) g (i32At g) argument-long InRange (argument-decodes g) (zero-decodes g) (p + 2) 4 (f .arguments) r
+      places-at
 
 -- what stands at a place that is laid out
 laid-get : (n k : ℕ) (zs : List ℤ) → k < n → getD (laidPlaces itself (pos 0) n zs) k (pos 0) ≡ getD zs k (pos 0)
@@ -303,7 +304,8 @@ module _ (t arities : List ℕ) (declared : (k : ℕ) → k < length arities →
   -- reading it back gives the goal
   pub goal-back : (fs : List GoalFact) → GoalGood arities fs → goalTree arities (encodeGoal fs) ≡ fs
   unfolding goalTree
-  goal-back fs w = ap (map (goalFactTree arities)) (goal-facts fs w) ∙ map-back laidFact (goalFactTree arities) (GoalFactGood arities) goal-fact-back fs (w .facts)
+  goal-back fs w =
+      ap (map (goalFactTree arities)) (goal-facts fs w) ∙ map-back laidFact (goalFactTree arities) (GoalFactGood arities) goal-fact-back fs (w .facts)
 
   -- a good goal is written as what is read back of it
   goal-written : (g : List ℕ) → AreBytes g → WholeGoal t (length arities) g
@@ -344,20 +346,24 @@ pub record EncodesGoal (arities g : List ℕ) (fs : List GoalFact) : Type 0 wher
   pub bytes : encodeGoal fs ≡ g
 
 module _ (t : List ℕ) (e : readOf t .verdict ≡ Good) where
-  -- Bytes are a good goal for a good table exactly if they are the encoding of a goal that is well formed over its arities.
-  pub goal-exactly : (g : List ℕ) → AreBytes g → (goalVerdict t (readOf t .symbols) g ≡ Good) ↔ ((fs : List GoalFact) × EncodesGoal (aritiesOf t) g fs)
-  goal-exactly g u =
+  -- A list of numbers is made of bytes and is a good goal for a good table exactly if it is the encoding of a goal that is well formed over its arities.
+  pub goal-exactly : (g : List ℕ)
+      → (AreBytes g × (goalVerdict t (readOf t .symbols) g ≡ Good)) ↔ ((fs : List GoalFact) × EncodesGoal (aritiesOf t) g fs)
+  goal-exactly g =
       let n : readOf t .symbols ≡ length (aritiesOf t) = sym (arities-count t e) in
       let whole : goalVerdict t (readOf t .symbols) g ≡ Good → WholeGoal t (length (aritiesOf t)) g =
       λ q. subst (λ (k : ℕ). WholeGoal t k g) n (whole-goal t (readOf t .symbols) g q) in (
         λ q. (
           goalTree (aritiesOf t) g,
           record {
-            formed = goal-formed t (aritiesOf t) (arities-declared t e) (arities-small t e) g u (whole q);
-            bytes = goal-bytes t (aritiesOf t) (arities-declared t e) (arities-small t e) g u (whole q);
+            formed = goal-formed t (aritiesOf t) (arities-declared t e) (arities-small t e) g (q .0) (whole (q .1));
+            bytes = goal-bytes t (aritiesOf t) (arities-declared t e) (arities-small t e) g (q .0) (whole (q .1));
           },
         ),
-        λ w. rw (n, ← w .1 .bytes) (goal-good t (aritiesOf t) (arities-declared t e) (arities-small t e) (w .0) (w .1 .formed)),
+        λ w. rw (n, ← w .1 .bytes) (
+          goal-encoding-bytes (aritiesOf t) (arities-few t e) (w .0) (w .1 .formed),
+          goal-good t (aritiesOf t) (arities-declared t e) (arities-small t e) (w .0) (w .1 .formed),
+        ),
       )
 
   -- The encoding of a well-formed goal is read to its facts, and back to the goal.

@@ -33,6 +33,7 @@ use Rattle.grammar.proofs.Parts.{each-long, each-encode, each-good, eac
 use Rattle.grammar.proofs.Parts.{head-fits, guard-long, guard-encodes, guard-fits, guard-strange, known-formula, expressionStrange, formulasAt}
 use Rattle.grammar.proofs.Parts.{fact-strange, is-fact, is-fail, item-fact, item-fail, fact-long, fact-encodes, fact-fits, uses-few}
 use Rattle.grammar.proofs.Reading.{map-append, fail-long}
+use Rattle.grammar.proofs.Bytes.{encoding-bytes}
 use Rattle.grammar.proofs.Encoded.{encoding-good}
 
 -- ---- trees that are written from p to q
@@ -302,6 +303,9 @@ module _ (t : List ℕ) (e : readOf t .verdict ≡ Good) where
       let z : 0 + k ≡ k = omega arith in
       sym (rw z at (arities-at t 0 (readOf t .symbols) k (omega arith)))
 
+  pub arities-few : length (aritiesOf t) ≤ 32
+  arities-few = omega (arith, arities-count, good .fewSymbols)
+
   pub arities-small : every (λ (a : ℕ). a ≤ 4) (aritiesOf t)
   arities-small = arities-written .good
 
@@ -309,13 +313,14 @@ module _ (t : List ℕ) (u : AreBytes t) (e : readOf t .verdict ≡ Good) where
   table-written : Written ruleBytes (RuleGood (aritiesOf t)) t (2 * readOf t .symbols) (whole t e .last) (treeOf t .rules)
   unfolding treeOf tableOf tableBy
   table-written =
-      rules-written t u (aritiesOf t) (arities-declared t e) (arities-small t e) (take (readOf t .rules) (readOf t .shapes)) (2 * readOf t .symbols) (whole t e .last)
+      rules-written t u (aritiesOf t) (arities-declared t e) (arities-small t e) (take (readOf t .rules) (readOf t .shapes))
+      (2 * readOf t .symbols) (whole t e .last)
       (rw (arities-count t e) (every-shape t (good t e))) (rw (arities-count t e) (whole t e .rules))
 
   tree-formed : WellFormed (treeOf t)
   unfolding treeOf
   tree-formed = record {
-    fewSymbols = omega (arith, arities-count t e, good t e .fewSymbols);
+    fewSymbols = arities-few t e;
     arities = arities-small t e;
     fewRules = omega (arith, length-map (tableOf t .rules) ruleTree, rules-few t (good t e));
     rules = table-written .good;
@@ -347,9 +352,10 @@ pub record Encodes (t : List ℕ) (w : TableTree) : Type 0 where
 pub good-encodes : (t : List ℕ) → AreBytes t → readOf t .verdict ≡ Good → Encodes t (treeOf t)
 good-encodes t u e = record { formed = tree-formed t u e; bytes = tree-bytes t u e }
 
--- Bytes are a good table exactly if they are the encoding of a well-formed tree. (They are of one tree at most: one-tree.)
-pub good-exactly : (t : List ℕ) → AreBytes t → (readOf t .verdict ≡ Good) ↔ ((w : TableTree) × Encodes t w)
-good-exactly t u = (
-  λ e. (treeOf t, good-encodes t u e),
-  λ q. subst (λ (b : List ℕ). readOf b .verdict ≡ Good) (q .1 .bytes) (encoding-good (q .0) (q .1 .formed)),
+-- A list of numbers is made of bytes and is a good table exactly if it is the encoding of a well-formed tree. (Of one tree: one-tree.)
+pub good-exactly : (t : List ℕ) → (AreBytes t × (readOf t .verdict ≡ Good)) ↔ ((w : TableTree) × Encodes t w)
+good-exactly t = (
+  λ q. (treeOf t, good-encodes t (q .0) (q .1)),
+  λ q. subst (λ (b : List ℕ). AreBytes b × (readOf b .verdict ≡ Good)) (q .1 .bytes)
+      (encoding-bytes (q .0) (q .1 .formed), encoding-good (q .0) (q .1 .formed)),
 )

@@ -6,5 +6,7 @@ pub mod Tests
 pub mod Parts
 pub mod Reading
 pub mod Encoded
+pub mod Bytes
 pub mod Grammar
 pub mod Goals
+pub mod Answers
