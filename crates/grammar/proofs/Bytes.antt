@@ -4,7 +4,7 @@ use mathlib.Core.List.{List, [], _∷_, _++_}
 use native.Mathlib.Omega.{arith}
 use lib.ListN.{length, replicate}
 use Rattle.wire.specs.Wire.{bytes4, bitsOf}
-use Rattle.model.proofs.Every.{every, every-append}
+use Rattle.model.proofs.Every.{every, every-append, every-weaken}
 use Rattle.model.proofs.Lists.{every-replicate}
 use Rattle.model.proofs.Ranges.{AreBytes}
 use Rattle.grammar.specs.Tree.{Term, constant, variable, Operation, sum, difference, product, quotient, remainder, operationNumber, Formula, alone}
@@ -82,13 +82,12 @@ module _ (arities : List ℕ) (few : length arities ≤ 32) where
   rule : (w : RuleTree) → RuleGood arities w → AreBytes (ruleBytes w)
   unfolding ruleBytes
   rule w g =
-      let hs = headTerms (headsOf w) in (
-        omega arith,
-        both (eachBytes (headBytes 3) (w .kept)) _ (each (headBytes 3) (HeadGood arities) (head 3 (omega arith)) (w .kept) (g .kept))
-            (both (eachBytes (headBytes 4) (w .removed)) _ (each (headBytes 4) (HeadGood arities) (head 4 (omega arith)) (w .removed) (g .removed))
-            (both (eachBytes guardBytes (w .guards)) _ (each guardBytes (GuardGood hs) (λ x k. guard x) (w .guards) (g .guards))
-            (each itemBytes (ItemGood arities hs) (item hs) (w .items) (g .items)))),
-      )
+      let hs = headTerms (headsOf w) in
+      let kept = each (headBytes 3) (HeadGood arities) (head 3 (omega arith)) (w .kept) (g .kept) in
+      let removed = each (headBytes 4) (HeadGood arities) (head 4 (omega arith)) (w .removed) (g .removed) in
+      let guards = each guardBytes (GuardGood hs) (λ x k. guard x) (w .guards) (g .guards) in
+      let items = each itemBytes (ItemGood arities hs) (item hs) (w .items) (g .items) in
+      (omega arith, search both)
 
   goal-fact : (f : GoalFact) → GoalFactGood arities f → AreBytes (goalFactBytes f)
   unfolding goalFactBytes
@@ -99,14 +98,14 @@ module _ (arities : List ℕ) (few : length arities ≤ 32) where
   unfolding encodeGoal
   goal-encoding-bytes fs g = each goalFactBytes (GoalFactGood arities) goal-fact fs (g .facts)
 
-symbol : (a : ℕ) → a ≤ 4 → AreBytes (symbolBytes a)
+symbol : (a : ℕ) → a < 256 → AreBytes (symbolBytes a)
 unfolding symbolBytes
-symbol a h = (omega arith, (omega arith, tt))
+symbol a h = (omega arith, (h, tt))
 
 -- The encoding of a well-formed tree is made of bytes.
 pub encoding-bytes : (w : TableTree) → WellFormed w → AreBytes (encode w)
 unfolding encode
 encoding-bytes w g =
-    both (eachBytes symbolBytes (w .arities)) _ (each symbolBytes (λ (a : ℕ). a ≤ 4) symbol (w .arities) (g .arities))
+    both (eachBytes symbolBytes (w .arities)) _ (each symbolBytes Byte symbol (w .arities) (every-weaken _ Byte (λ a h. omega arith) (w .arities) (g .arities)))
     (both (eachBytes ruleBytes (w .rules)) (8 ∷ []) (each ruleBytes (RuleGood (w .arities)) (rule (w .arities) (g .fewSymbols)) (w .rules) (g .rules))
     (omega arith, tt))

@@ -13,7 +13,7 @@ use lib.ListN.{length, getD, take, replicate, length-map}
 use lib.Seq.{length-take-le}
 use borrow.Author.Tests.{lt-leb, le-leb, ltb-true, ltb-false}
 use Rattle.numbers.specs.Laws.{InRange, in-range-fits, fits-in-range}
-use Rattle.wire.specs.Wire.{u32At, i32At, signedOf, bitsOf}
+use Rattle.wire.specs.Wire.{u32At, i32At, signedOf, bitsOf, bytes4}
 use Rattle.wire.specs.Laws.{bits-below, signed-bits, signed-fits, signed-low}
 use Rattle.model.specs.declared.Fact.{Fact}
 use Rattle.model.specs.declared.Verdict.{Verdict}
@@ -32,7 +32,7 @@ use Rattle.grammar.specs.Encode.{eachBytes, placesBytes, argumentBytes, 
 use Rattle.grammar.specs.WellFormed.{Uses, GoalFactGood, GoalGood}
 use Rattle.grammar.specs.Layout.{numbered, laidPlaces, laidFact, aritiesOf, goalFactTree, goalTree}
 use Rattle.grammar.proofs.Same.{Same, same-first, same-rest, same-more, same-left, same-right, same-at, same-self, same-whole, word-decodes}
-use Rattle.grammar.proofs.Same.{word-encodes, word-long, zeros-decode, zeros-encode}
+use Rattle.grammar.proofs.Same.{word-encodes, zeros-decode, zeros-encode}
 use Rattle.grammar.proofs.Slots.{below, bits-at}
 use Rattle.grammar.proofs.Places.{rowsAt, usedBad, four-used, places-long, places-decode, places-encode, laid-used}
 use Rattle.grammar.proofs.Tests.{no-test}
@@ -44,7 +44,8 @@ use Rattle.grammar.proofs.Grammar.{Written, rows-written, arities-count
 -- ---- arguments
 
 argument-long : (z : ℤ) → length (argumentBytes z) ≡ 4
-argument-long z = word-long (bitsOf z)
+unfolding bytes4
+argument-long z = refl
 
 abbrev itself : ℤ → ℤ
 itself z = z

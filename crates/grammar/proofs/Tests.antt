@@ -50,7 +50,7 @@ pub slot-used : (s : Slot) → placeBad true s ≡ false → SlotHeld s → Plac
 unfolding placeBad termsIn
 slot-used Unused e h = no-test e
 slot-used (Constant z) e h = record { item = constant z; one = refl; same = refl; good = h }
-slot-used (Variable v) e h = record { item = variable v; one = refl; same = refl; good = h }
+slot-used (Variable v) e h = record { item = variable v; one = refl; same = refl; good = omega arith }
 slot-used Bad e h = no-test e
 
 pub slot-blank : (s : Slot) → placeBad false s ≡ false → (s ≡ Unused) × (termsIn s ≡ [])
