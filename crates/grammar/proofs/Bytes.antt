@@ -2,6 +2,7 @@
 use Prim.Native.Nat.{ℕ, zero, suc, _≤_, _<_}
 use mathlib.Core.List.{List, [], _∷_, _++_}
 use native.Mathlib.Omega.{arith}
+use lib.IntN.{ℤ}
 use lib.ListN.{length, replicate}
 use Rattle.wire.specs.Wire.{bytes4, bitsOf}
 use Rattle.model.proofs.Every.{every, every-append, every-weaken}
@@ -23,6 +24,10 @@ both xs ys u v = every-append Byte xs ys u v
 word : (n : ℕ) → AreBytes (bytes4 n)
 unfolding bytes4
 word n = (omega arith, (omega arith, (omega arith, (omega arith, tt))))
+
+argument : (z : ℤ) → AreBytes (argumentBytes z)
+unfolding bytes4
+argument z = (omega arith, (omega arith, (omega arith, (omega arith, tt))))
 
 zeros : (n : ℕ) → AreBytes (replicate n 0)
 zeros n = every-replicate Byte n 0 (omega arith)
@@ -91,7 +96,7 @@ module _ (arities : List ℕ) (few : length arities ≤ 32) where
 
   goal-fact : (f : GoalFact) → GoalFactGood arities f → AreBytes (goalFactBytes f)
   unfolding goalFactBytes
-  goal-fact f g = (omega arith, (omega (arith, g .symbol .declared), places argumentBytes 4 (λ z. word (bitsOf z)) 4 (f .arguments)))
+  goal-fact f g = (omega arith, (omega (arith, g .symbol .declared), places argumentBytes 4 argument 4 (f .arguments)))
 
   -- and so of a goal over at most 32 symbols
   pub goal-encoding-bytes : (fs : List GoalFact) → GoalGood arities fs → AreBytes (encodeGoal fs)
