@@ -251,12 +251,16 @@ module _ (arities : List ℕ) (small : every (λ (a : ℕ). a ≤ 4) arities) wh
       let items = map-back laidItem itemTree (ItemGood arities hs) (λ x q. item-back x (item-few hs x q)) (w .items) (g .items) in
       λ i. record { kept = kept i; removed = removed i; guards = guards i; items = items i }
 
-pub tree-back : (w : TableTree) → WellFormed w → treeOf (encode w) ≡ w
-unfolding treeOf aritiesOf laid
-tree-back w g =
-    let arities : aritiesFrom (encode w) 0 (readOf (encode w) .symbols) ≡ w .arities =
+pub encoded-arities : (w : TableTree) → WellFormed w → aritiesOf (encode w) ≡ w .arities
+unfolding aritiesOf
+encoded-arities w g =
     ap (aritiesFrom (encode w) 0) (encoded-symbols w g)
-    ∙ arities-back (encode w) (w .arities) 0 (λ k h. let e : 0 + k ≡ k = omega arith in rw e (encoded-arity w g k h)) in
+    ∙ arities-back (encode w) (w .arities) 0 (λ k h. let e : 0 + k ≡ k = omega arith in rw e (encoded-arity w g k h))
+
+pub tree-back : (w : TableTree) → WellFormed w → treeOf (encode w) ≡ w
+unfolding treeOf laid
+tree-back w g =
+    let arities = encoded-arities w g in
     let rules = ap (λ (x : Table). map ruleTree (x .rules)) (encoded-table w g)
     ∙ map-back laidRule ruleTree (RuleGood (w .arities)) (rule-back (w .arities) (g .arities)) (w .rules) (g .rules) in
     λ i. record { arities = arities i; rules = rules i }

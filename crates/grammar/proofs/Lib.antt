@@ -10,3 +10,5 @@ pub mod Bytes
 pub mod Grammar
 pub mod Goals
 pub mod Answers
+pub mod Calls
+pub mod Examples
