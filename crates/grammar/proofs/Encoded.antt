@@ -85,7 +85,7 @@ module _ (t arities : List ℕ) where
       → guardsFrom t p (length gs) ≡ map laidGuard gs
   guards-decode hs p gs g s =
       guards-rows t p (length gs)
-      ∙ each-decode guardBytes 24 laidGuard t (guardAt t) guard-long (GuardGood hs) (λ q x w. guard-decodes t q x (w .left) (w .right)) p gs g s
+      ∙ each-decode guardBytes 24 guard-long t (guardAt t) laidGuard (GuardGood hs) (λ q x w. guard-decodes t q x (w .left) (w .right)) p gs g s
 
   fact-first : (p x : ℕ) (es : List Formula) → Same t p (itemBytes (fact x es)) → isFact t p ≡ true
   unfolding itemBytes

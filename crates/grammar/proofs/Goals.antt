@@ -106,7 +106,7 @@ later-places arity g p =
 
 pub goal-fact-long : (f : GoalFact) → length (goalFactBytes f) ≡ 18
 unfolding goalFactBytes
-goal-fact-long f = omega (arith, places-long argumentBytes 4 itself (pos 0) [] (i32At []) argument-long 4 (f .arguments))
+goal-fact-long f = omega (arith, places-long argumentBytes 4 argument-long 4 (f .arguments))
 
 -- four arguments behind the symbol
 fact-arguments : (g : List ℕ) (p : ℕ) → arguments (factAt g p) ≡ rowsAt (i32At g) 4 (p + 2) 4
@@ -265,7 +265,7 @@ module _ (t arities : List ℕ) (declared : (k : ℕ) → k < length arities →
 
   goal-count : (fs : List GoalFact) → length (encodeGoal fs) ≡ 18 * length fs
   unfolding encodeGoal
-  goal-count fs = each-long goalFactBytes 18 laidFact [] (factAt []) goal-fact-long fs
+  goal-count fs = each-long goalFactBytes 18 goal-fact-long fs
 
   goal-self : (fs : List GoalFact) → Same (encodeGoal fs) 0 (eachBytes goalFactBytes fs)
   unfolding encodeGoal
@@ -291,7 +291,7 @@ module _ (t arities : List ℕ) (declared : (k : ℕ) → k < length arities →
       let all : length (encodeGoal fs) / 18 ≡ length fs = omega arith in
       ap (factsFrom (encodeGoal fs) 0) all
       ∙ facts-rows (encodeGoal fs) 0 (length fs)
-      ∙ each-decode goalFactBytes 18 laidFact (encodeGoal fs) (factAt (encodeGoal fs)) goal-fact-long (GoalFactGood arities)
+      ∙ each-decode goalFactBytes 18 goal-fact-long (encodeGoal fs) (factAt (encodeGoal fs)) laidFact (GoalFactGood arities)
       (λ p f q. goal-fact-decodes (encodeGoal fs) p f (q .arguments)) 0 fs (w .facts) (goal-self fs)
 
   goal-fact-back : (f : GoalFact) → GoalFactGood arities f → goalFactTree arities (laidFact f) ≡ f
@@ -322,7 +322,7 @@ module _ (t arities : List ℕ) (declared : (k : ℕ) → k < length arities →
       λ i h. subst (λ (p : ℕ). (k : ℕ) → k < 4 → arityAt t (getD g (p + 1) 0) ≤ k → u32At g (p + 2 + 4 * k) ≡ 0) (z i) (w .later i h) in
       rw (facts-rows g 0 n)
       (subst (λ (q : ℕ). Written goalFactBytes (GoalFactGood arities) g 0 q (map (goalFactTree arities) (rowsAt (factAt g) 18 0 n))) (sym end)
-      (rows-written goalFactBytes 18 laidFact g (factAt g) goal-fact-long (GoalFactGood arities) (goalFactTree arities) 0 n
+      (rows-written goalFactBytes 18 goal-fact-long g (factAt g) (GoalFactGood arities) (goalFactTree arities) 0 n
       (λ i h. goal-fact-encodes t arities declared small g u (0 + 18 * i) (kind i h) (known i h) (later i h))
       (λ i h. goal-fact-fits t arities declared small g u (0 + 18 * i) (kind i h) (known i h) (later i h))))
 

@@ -62,14 +62,14 @@ pub rows-long : {A B : Type 0} (at : ℕ → B) (size : ℕ) (back : B → A) (p
 rows-long at size back p zero = refl
 rows-long at size back p (suc n) = ap suc (rows-long at size back (p + size) n)
 
-pub rows-written : {A B : Type 0} (bytes : A → List ℕ) (size : ℕ) (lay : A → B) (t : List ℕ) (at : ℕ → B) → ((x : A) → length (bytes x) ≡ size)
+pub rows-written : {A B : Type 0} (bytes : A → List ℕ) (size : ℕ) → ((x : A) → length (bytes x) ≡ size) → (t : List ℕ) (at : ℕ → B)
     → (Fit : A → Type 0) (back : B → A) (p n : ℕ) → ((i : ℕ) → i < n → Same t (p + size * i) (bytes (back (at (p + size * i)))))
     → ((i : ℕ) → i < n → Fit (back (at (p + size * i)))) → Written bytes Fit t p (p + size * n) (map back (rowsAt at size p n))
-rows-written bytes size lay t at long Fit back p n same fit = record {
-  same = each-encode bytes size lay t at long back p n same;
+rows-written bytes size long t at Fit back p n same fit = record {
+  same = each-encode bytes size long t at back p n same;
   ends = ap (λ (k : ℕ). p + k)
-      (each-long bytes size lay t at long (map back (rowsAt at size p n)) ∙ ap (λ (k : ℕ). size * k) (rows-long at size back p n));
-  good = each-good bytes size lay t at long Fit back p n fit;
+      (each-long bytes size long (map back (rowsAt at size p n)) ∙ ap (λ (k : ℕ). size * k) (rows-long at size back p n));
+  good = each-good size at back Fit p n fit;
 }
 
 -- ---- the arities
@@ -123,7 +123,7 @@ module _ (t : List ℕ) (u : AreBytes t) (arities : List ℕ) (declared : (k : �
       let fits : (i : ℕ) (h : i < n) → HeadFits t arities declared small (p + 22 * i) (headTree (headAt t (p + 22 * i))) =
       λ i h. head-fits t arities declared small u (p + 22 * i) (fields i h) in
       rw (heads-rows t p n)
-      (rows-written (headBytes byte) 22 laidHead t (headAt t) (head-long byte) (HeadGood arities) headTree p n
+      (rows-written (headBytes byte) 22 (head-long byte) t (headAt t) (HeadGood arities) headTree p n
       (λ i h. head-encodes t u (p + 22 * i) byte (headTree (headAt t (p + 22 * i))) (kinds i h) (fits i h .same)) (λ i h. fits i h .good))
 
   -- what they are read back to is laid out as they are read
@@ -131,7 +131,7 @@ module _ (t : List ℕ) (u : AreBytes t) (arities : List ℕ) (declared : (k : �
       → headsFrom t p n ≡ map laidHead (map headTree (headsFrom t p n))
   heads-laid p n fields =
       rw (heads-rows t p n)
-      (each-laid (headBytes 3) 22 laidHead t (headAt t) (head-long 3) headTree p n
+      (each-laid 22 (headAt t) headTree laidHead p n
       (λ i h. head-fits t arities declared small u (p + 22 * i) (fields i h) .same))
 
   -- guards and items, behind heads that are read as those of hs
@@ -155,7 +155,7 @@ module _ (t : List ℕ) (u : AreBytes t) (arities : List ℕ) (declared : (k : �
         → Written guardBytes (GuardGood (headTerms hs)) t p (p + 24 * n) (map guardTree (guardsFrom t p n))
     guards-written p n w =
         rw (guards-rows t p n)
-        (rows-written guardBytes 24 laidGuard t (guardAt t) guard-long (GuardGood (headTerms hs)) guardTree p n
+        (rows-written guardBytes 24 guard-long t (guardAt t) (GuardGood (headTerms hs)) guardTree p n
         (λ i h. guard-encodes t u (p + 24 * i) (guardTree (guardAt t (p + 24 * i))) (w i h .kind) (guard-fits t u (p + 24 * i) (w i h .fields) .same))
         (λ i h. guard-good (p + 24 * i) (w i h)))
 

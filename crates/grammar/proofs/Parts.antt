@@ -53,19 +53,29 @@ module _ (t : List ℕ) (u : AreBytes t) where
 
 -- ---- one behind the other
 
-module _ {A B : Type 0} (bytes : A → List ℕ) (size : ℕ) (lay : A → B) (t : List ℕ) (at : ℕ → B) (long : (x : A) → length (bytes x) ≡ size) where
+-- what holds at each of n rows from p on holds at the first, and at the others
+rows-first : (P : ℕ → Type 0) (size p n : ℕ) → ((i : ℕ) → i < suc n → P (p + size * i)) → P p
+rows-first P size p n h = let z : p + size * 0 ≡ p = omega arith in subst P z (h 0 (omega arith))
+
+rows-later : (P : ℕ → Type 0) (size p n : ℕ) → ((i : ℕ) → i < suc n → P (p + size * i)) → (i : ℕ) → i < n → P (p + size + size * i)
+rows-later P size p n h i l =
+    let e : p + size * suc i ≡ p + size + size * i = omega (arith, mul-suc size i) in
+    subst P e (h (suc i) (omega arith))
+
+module _ {A : Type 0} (bytes : A → List ℕ) (size : ℕ) (long : (x : A) → length (bytes x) ≡ size) where
   pub each-long : (xs : List A) → length (eachBytes bytes xs) ≡ size * length xs
   unfolding eachBytes
   each-long [] = omega arith
   each-long (x ∷ xs) = length-append (bytes x) (eachBytes bytes xs) ∙ omega (arith, long x, each-long xs, mul-suc size (length xs))
 
-  pub each-decode : (Good : A → Type 0) → ((p : ℕ) (x : A) → Good x → Same t p (bytes x) → at p ≡ lay x)
+module _ {A B : Type 0} (bytes : A → List ℕ) (size : ℕ) (long : (x : A) → length (bytes x) ≡ size) (t : List ℕ) (at : ℕ → B) where
+  pub each-decode : (lay : A → B) (Good : A → Type 0) → ((p : ℕ) (x : A) → Good x → Same t p (bytes x) → at p ≡ lay x)
       → (p : ℕ) (xs : List A) → every Good xs → Same t p (eachBytes bytes xs) → rowsAt at size p (length xs) ≡ map lay xs
   unfolding eachBytes
-  each-decode Good one p [] g s = refl
-  each-decode Good one p (x ∷ xs) g s =
+  each-decode lay Good one p [] g s = refl
+  each-decode lay Good one p (x ∷ xs) g s =
       let first : at p ≡ lay x = one p x (g .0) (same-left t p (bytes x) (eachBytes bytes xs) s) in
-      let later = each-decode Good one (p + size) xs (g .1)
+      let later = each-decode lay Good one (p + size) xs (g .1)
       (same-at t (p + length (bytes x)) (p + size) (eachBytes bytes xs) (omega (arith, long x)) (same-right t p (bytes x) (eachBytes bytes xs) s)) in
       rw (first, later)
 
@@ -75,35 +85,26 @@ module _ {A B : Type 0} (bytes : A → List ℕ) (size : ℕ) (lay : A → B) (t
   unfolding eachBytes
   each-encode back p zero h = same-none t p
   each-encode back p (suc n) h =
-      let z : p + size * 0 ≡ p = omega arith in
-      let first : Same t p (bytes (back (at p))) = subst (λ (q : ℕ). Same t q (bytes (back (at q)))) z (h 0 (omega arith)) in
-      let later = each-encode back (p + size) n (λ i l.
-      let e : p + size * suc i ≡ p + size + size * i = omega (arith, mul-suc size i) in
-      subst (λ (q : ℕ). Same t q (bytes (back (at q)))) e (h (suc i) (omega arith))) in
+      let first : Same t p (bytes (back (at p))) = rows-first (λ (q : ℕ). Same t q (bytes (back (at q)))) size p n h in
+      let later = each-encode back (p + size) n (rows-later (λ (q : ℕ). Same t q (bytes (back (at q)))) size p n h) in
       same-both t p (bytes (back (at p))) _ first (same-at t (p + size) (p + length (bytes (back (at p)))) _ (omega (arith, long (back (at p)))) later)
 
-  pub each-good : (Good : A → Type 0) (back : B → A) (p n : ℕ) → ((i : ℕ) → i < n → Good (back (at (p + size * i))))
-      → every Good (map back (rowsAt at size p n))
-  each-good Good back p zero h = tt
-  each-good Good back p (suc n) h =
-      let z : p + size * 0 ≡ p = omega arith in (
-        subst (λ (q : ℕ). Good (back (at q))) z (h 0 (omega arith)),
-        each-good Good back (p + size) n (λ i l.
-            let e : p + size * suc i ≡ p + size + size * i = omega (arith, mul-suc size i) in
-            subst (λ (q : ℕ). Good (back (at q))) e (h (suc i) (omega arith))),
-      )
+module _ {A B : Type 0} (size : ℕ) (at : ℕ → B) (back : B → A) where
+  -- what they are read back to is good, if each is
+  pub each-good : (Good : A → Type 0) (p n : ℕ) → ((i : ℕ) → i < n → Good (back (at (p + size * i)))) → every Good (map back (rowsAt at size p n))
+  each-good Good p zero h = tt
+  each-good Good p (suc n) h =
+      let P : ℕ → Type 0 = λ q. Good (back (at q)) in
+      (rows-first P size p n h, each-good Good (p + size) n (rows-later P size p n h))
 
-  -- and what is laid out from what they are read back to
-  pub each-laid : (back : B → A) (p n : ℕ) → ((i : ℕ) → i < n → at (p + size * i) ≡ lay (back (at (p + size * i))))
+  -- and is laid out as they are, if each is
+  pub each-laid : (lay : A → B) (p n : ℕ) → ((i : ℕ) → i < n → at (p + size * i) ≡ lay (back (at (p + size * i))))
       → rowsAt at size p n ≡ map lay (map back (rowsAt at size p n))
-  each-laid back p zero h = refl
-  each-laid back p (suc n) h =
-      let z : p + size * 0 ≡ p = omega arith in
-      let first : at p ≡ lay (back (at p)) = subst (λ (q : ℕ). at q ≡ lay (back (at q))) z (h 0 (omega arith)) in
-      let later = each-laid back (p + size) n (λ i l.
-      let e : p + size * suc i ≡ p + size + size * i = omega (arith, mul-suc size i) in
-      subst (λ (q : ℕ). at q ≡ lay (back (at q))) e (h (suc i) (omega arith))) in
-      ap (λ (x : B). x ∷ rowsAt at size (p + size) n) first ∙ ap (λ (l : List B). lay (back (at p)) ∷ l) later
+  each-laid lay p zero h = refl
+  each-laid lay p (suc n) h =
+      let P : ℕ → Type 0 = λ q. at q ≡ lay (back (at q)) in
+      ap (λ (x : B). x ∷ rowsAt at size (p + size) n) (rows-first P size p n h)
+      ∙ ap (λ (l : List B). lay (back (at p)) ∷ l) (each-laid lay (p + size) n (rows-later P size p n h))
 
 pub heads-rows : (t : List ℕ) (p n : ℕ) → headsFrom t p n ≡ rowsAt (headAt t) 22 p n
 unfolding headsFrom
@@ -131,7 +132,7 @@ head-slots t p =
 
 pub head-long : (kind : ℕ) (h : HeadTree) → length (headBytes kind h) ≡ 22
 unfolding headBytes
-head-long kind h = omega (arith, places-long termBytes 5 slotOf Unused [] (slotAt []) term-long 4 (h .terms))
+head-long kind h = omega (arith, places-long termBytes 5 term-long 4 (h .terms))
 
 pub head-decodes : (t : List ℕ) (p kind : ℕ) (h : HeadTree) → every TermGood (h .terms) → Same t p (headBytes kind h) → headAt t p ≡ laidHead h
 unfolding headBytes laidHead
@@ -332,7 +333,7 @@ item-fail t p e = rw e
 
 pub fact-long : (s : ℕ) (es : List Formula) → length (itemBytes (fact s es)) ≡ 46
 unfolding itemBytes
-fact-long s es = omega (arith, places-long formulaBytes 11 expressionOf noExpression [] (expressionAt []) formula-long 4 es)
+fact-long s es = omega (arith, places-long formulaBytes 11 formula-long 4 es)
 
 pub record FactReads (t : List ℕ) (p s : ℕ) (es : List Formula) : Type 0 where
   pub symbol : getD t (p + 1) 0 ≡ s

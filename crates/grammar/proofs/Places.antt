@@ -22,8 +22,7 @@ rowsAt at size p (suc n) = at p ∷ rowsAt at size (p + size) n
 
 -- ---- against bytes
 
-module _ {A B : Type 0} (bytes : A → List ℕ) (size : ℕ) (lay : A → B) (blank : B) (t : List ℕ) (at : ℕ → B)
-    (long : (x : A) → length (bytes x) ≡ size) where
+module _ {A : Type 0} (bytes : A → List ℕ) (size : ℕ) (long : (x : A) → length (bytes x) ≡ size) where
   pub places-long : (n : ℕ) (xs : List A) → length (placesBytes bytes size n xs) ≡ size * n
   unfolding placesBytes
   places-long zero xs = omega arith
@@ -32,6 +31,8 @@ module _ {A B : Type 0} (bytes : A → List ℕ) (size : ℕ) (lay : A → B) (b
       ∙ omega (arith, length-replicate {A = ℕ} size 0, places-long n [], mul-suc size n)
   places-long (suc n) (x ∷ xs) = length-append (bytes x) (placesBytes bytes size n xs) ∙ omega (arith, long x, places-long n xs, mul-suc size n)
 
+module _ {A B : Type 0} (bytes : A → List ℕ) (size : ℕ) (lay : A → B) (blank : B) (t : List ℕ) (at : ℕ → B)
+    (long : (x : A) → length (bytes x) ≡ size) where
   pub places-decode : (Good : A → Type 0) → ((p : ℕ) (x : A) → Good x → Same t p (bytes x) → at p ≡ lay x)
       → ((p : ℕ) → Same t p (replicate size 0) → at p ≡ blank)
       → (p n : ℕ) (xs : List A) → every Good xs → Same t p (placesBytes bytes size n xs) → rowsAt at size p n ≡ laidPlaces lay blank n xs

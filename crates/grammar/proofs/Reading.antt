@@ -5,7 +5,7 @@ use mathlib.Core.Path.{_≡_, refl, sym, ap, _∙_, subst}
 use mathlib.Core.Bool.{false}
 use mathlib.Core.List.{List, [], _∷_, _++_, map}
 use native.Mathlib.Omega.{arith}
-use lib.Dec.{eqb}
+use lib.Dec.{eqb, leb}
 use lib.ListN.{length, getD, set, length-append}
 use lib.Seq.{set-set}
 use borrow.Author.Tests.{lt-leb, le-ltb, ne-eqb}
@@ -72,7 +72,6 @@ pub record Reads (t : List ℕ) (s : Scan) (shapes : List RuleShape) (r : Readin
 -- the tests that a record of kind k passes
 pub record Passes (t : List ℕ) (s : Scan) (k : Kind) : Type 0 where
   pub kind : kindOf (getD t (s .at) 0) ≡ k
-  pub known : eqb (sizeOf k) 0 ≡ false
   pub some : 1 ≤ sizeOf k
   pub lies : s .at + sizeOf k ≤ length t
   pub early : earliestOf k ≤ s .stage
@@ -88,7 +87,7 @@ record-passes t s k p =
     rw (
       lt-leb (length t) (s .at) (omega (arith, p .some, p .lies)),
       p .kind,
-      p .known,
+      ne-eqb (sizeOf k) 0 (λ (z : sizeOf k ≡ 0). omega (arith, p .some)),
       le-ltb (length t) (s .at + sizeOf k) (p .lies),
       le-ltb (s .stage) (earliestOf k) (p .early),
       le-ltb (latestOf k) (s .stage) (p .late),
@@ -136,7 +135,6 @@ module _ (t : List ℕ) (r : Reading) where
       reads-next t (scanOf at 0 k 0 shape) next shapes shapes r NextSymbol
       (record {
         kind = kind-of t at 1 (x ∷ []) NextSymbol refl here;
-        known = refl;
         some = omega arith;
         lies = here .lies;
         early = omega arith;
@@ -169,6 +167,47 @@ reads-part t r m k shapes at stage at′ stage′ x y kind p b l q =
     reads-next t (scanOf at stage m (k + 1) x) (scanOf at′ stage′ m (k + 1) y) (set shapes k x) (set shapes k y) r kind p b l
     (noted-again shapes (scanOf at′ stage′ m (k + 1) y) k x refl) q
 
+-- what the definition says of a kind of head, where `kept` of n heads are kept
+record HeadKind (byte : ℕ) (kind : Kind) (last : ℕ) (kept : ℕ → ℕ) : Type 0 where
+  named : kindOf byte ≡ kind
+  size : sizeOf kind ≡ 22
+  early : earliestOf kind ≡ 1
+  late : latestOf kind ≡ last
+  headed : (stage : ℕ) → headless kind stage ≡ false
+  few : (s : Scan) → tooMany kind s ≡ leb 4 (s .shape .heads)
+  fields : (t : List ℕ) (s : Scan) → badField t s kind ≡ headBad t (s .at) (s .symbols)
+  usual : (t : List ℕ) (s : Scan) → strange t s kind ≡ false
+  goes : (at stage m k start n : ℕ) → behind (scanOf at stage m k (shapeOf start (kept n) n 0 0)) kind
+      ≡ Next (scanOf (at + 22) last m k (shapeOf start (kept (n + 1)) (n + 1) 0 0))
+
+kept-kind : HeadKind 3 KeptHead 2 (λ n. n)
+unfolding kindOf badField strange behind
+kept-kind = record {
+  named = refl;
+  size = refl;
+  early = refl;
+  late = refl;
+  headed = λ stage. refl;
+  few = λ s. refl;
+  fields = λ t s. refl;
+  usual = λ t s. refl;
+  goes = λ at stage m k start n. refl;
+}
+
+removed-kind : (kept : ℕ) → HeadKind 4 RemovedHead 3 (λ n. kept)
+unfolding kindOf badField strange behind
+removed-kind kept = record {
+  named = refl;
+  size = refl;
+  early = refl;
+  late = refl;
+  headed = λ stage. refl;
+  few = λ s. refl;
+  fields = λ t s. refl;
+  usual = λ t s. refl;
+  goes = λ at stage m k start n. refl;
+}
+
 module _ (t arities : List ℕ) (declared : (k : ℕ) → k < length arities → arityAt t k ≡ getD arities k 0) (small : every (λ (a : ℕ). a ≤ 4) arities)
     (r : Reading) (k : ℕ) (shapes : List RuleShape) (start : ℕ) where
   -- the scan in the rule
@@ -176,12 +215,25 @@ module _ (t arities : List ℕ) (declared : (k : ℕ) → k < length arities →
   inRule at stage kept heads guards items =
       Reads t (scanOf at stage (length arities) (k + 1) (shapeOf start kept heads guards items)) (set shapes k (shapeOf start kept heads guards items)) r
 
-  -- heads of one kind, up to whose stage a head may stand
-  module _ (byte : ℕ) (kind : Kind) (last : ℕ) (two : 2 ≤ last) (kept : ℕ → ℕ)
-      (passes : (at stage n : ℕ) (h : HeadTree) → 1 ≤ stage → stage ≤ last → n < 4 → HeadGood arities h → At t at (headBytes byte h)
-      → Passes t (scanOf at stage (length arities) (k + 1) (shapeOf start (kept n) n 0 0)) kind)
-      (goes : (at stage n : ℕ) → behind (scanOf at stage (length arities) (k + 1) (shapeOf start (kept n) n 0 0)) kind
-      ≡ Next (scanOf (at + 22) last (length arities) (k + 1) (shapeOf start (kept (n + 1)) (n + 1) 0 0))) where
+  -- heads of one kind
+  module _ (byte : ℕ) (kind : Kind) (last : ℕ) (kept : ℕ → ℕ) (two : 2 ≤ last) (says : HeadKind byte kind last kept) where
+    head-passed : (at stage n : ℕ) (h : HeadTree) → 1 ≤ stage → stage ≤ last → n < 4 → HeadGood arities h → At t at (headBytes byte h)
+        → Passes t (scanOf at stage (length arities) (k + 1) (shapeOf start (kept n) n 0 0)) kind
+    unfolding headBytes
+    head-passed at stage n h l m few g a =
+        let s = scanOf at stage (length arities) (k + 1) (shapeOf start (kept n) n 0 0) in
+        record {
+          kind = kind-of t at byte _ kind (says .named) a;
+          some = omega (arith, says .size);
+          lies = omega (arith, a .lies, head-long byte h, says .size);
+          early = omega (arith, says .early);
+          late = omega (arith, says .late);
+          headed = says .headed stage;
+          few = says .few s ∙ lt-leb 4 n few;
+          fields = says .fields t s ∙ head-passes t arities declared small at h g (head-decodes t at byte h (g .terms) (a .same));
+          usual = says .usual t s;
+        }
+
     reads-heads : (hs : List HeadTree) (at stage n : ℕ) → 1 ≤ stage → stage ≤ last → (1 ≤ n → 2 ≤ stage) → n + length hs ≤ 4 → every (HeadGood arities) hs
         → At t at (eachBytes (headBytes byte) hs)
         → ((at′ stage′ n′ : ℕ) → at′ ≡ at + 22 * length hs → n′ ≡ n + length hs → 1 ≤ stage′ → stage′ ≤ last → (1 ≤ n′ → 2 ≤ stage′)
@@ -192,55 +244,10 @@ module _ (t arities : List ℕ) (declared : (k : ℕ) → k < length arities →
     reads-heads (h ∷ hs) at stage n l m w few g a q =
         let here = at-left t at (headBytes byte h) (eachBytes (headBytes byte) hs) a in
         reads-part t r (length arities) k shapes at stage (at + 22) last (shapeOf start (kept n) n 0 0) (shapeOf start (kept (n + 1)) (n + 1) 0 0) kind
-        (passes at stage n h l m (omega arith) (g .0) here) (goes at stage n) (omega arith)
+        (head-passed at stage n h l m (omega arith) (g .0) here) (says .goes at stage (length arities) (k + 1) start n) (omega arith)
         (reads-heads hs (at + 22) last (n + 1) (omega arith) (omega arith) (λ x. two) (omega arith) (g .1)
         (at-right t at (at + 22) (headBytes byte h) (eachBytes (headBytes byte) hs) (omega (arith, head-long byte h)) a)
         (λ at′ stage′ n′ e d. q at′ stage′ n′ (omega arith) (omega arith)))
-
-  head-bad : (at byte : ℕ) (h : HeadTree) → HeadGood arities h → At t at (headBytes byte h) → headBad t at (length arities) ≡ false
-  head-bad at byte h g a = head-passes t arities declared small at h g (head-decodes t at byte h (g .terms) (a .same))
-
-  kept-passes : (at stage n : ℕ) (h : HeadTree) → 1 ≤ stage → stage ≤ 2 → n < 4 → HeadGood arities h → At t at (headBytes 3 h)
-      → Passes t (scanOf at stage (length arities) (k + 1) (shapeOf start n n 0 0)) KeptHead
-  unfolding badField strange kindOf headBytes
-  kept-passes at stage n h l m few g a = record {
-    kind = kind-of t at 3 _ KeptHead refl a;
-    known = refl;
-    some = omega arith;
-    lies = omega (arith, a .lies, head-long 3 h);
-    early = l;
-    late = m;
-    headed = refl;
-    few = lt-leb 4 n few;
-    fields = head-bad at 3 h g a;
-    usual = refl;
-  }
-
-  removed-passes : (kept at stage n : ℕ) (h : HeadTree) → 1 ≤ stage → stage ≤ 3 → n < 4 → HeadGood arities h → At t at (headBytes 4 h)
-      → Passes t (scanOf at stage (length arities) (k + 1) (shapeOf start kept n 0 0)) RemovedHead
-  unfolding badField strange kindOf headBytes
-  removed-passes kept at stage n h l m few g a = record {
-    kind = kind-of t at 4 _ RemovedHead refl a;
-    known = refl;
-    some = omega arith;
-    lies = omega (arith, a .lies, head-long 4 h);
-    early = l;
-    late = m;
-    headed = refl;
-    few = lt-leb 4 n few;
-    fields = head-bad at 4 h g a;
-    usual = refl;
-  }
-
-  kept-goes : (at stage n : ℕ) → behind (scanOf at stage (length arities) (k + 1) (shapeOf start n n 0 0)) KeptHead
-      ≡ Next (scanOf (at + 22) 2 (length arities) (k + 1) (shapeOf start (n + 1) (n + 1) 0 0))
-  unfolding behind
-  kept-goes at stage n = refl
-
-  removed-goes : (kept at stage n : ℕ) → behind (scanOf at stage (length arities) (k + 1) (shapeOf start kept n 0 0)) RemovedHead
-      ≡ Next (scanOf (at + 22) 3 (length arities) (k + 1) (shapeOf start kept (n + 1) 0 0))
-  unfolding behind
-  removed-goes kept at stage n = refl
 
   -- guards and items, behind heads that have been read
   module _ (kept heads : ℕ) (hs : List HeadTree) (read : headsFrom t (start + 1) heads ≡ map laidHead hs) (good : every (HeadGood arities) hs) where
@@ -271,7 +278,6 @@ module _ (t arities : List ℕ) (declared : (k : ℕ) → k < length arities →
         reads-part t r (length arities) k shapes at stage (at + 24) 4 (shapeOf start kept heads n 0) (shapeOf start kept heads (n + 1) 0) Comparison
         (record {
           kind = kind-of t at 5 _ Comparison refl here;
-          known = refl;
           some = omega arith;
           lies = omega (arith, here .lies, guard-long g);
           early = omega arith;
@@ -294,7 +300,6 @@ module _ (t arities : List ℕ) (declared : (k : ℕ) → k < length arities →
         let read = fact-decodes t at s es (w .formulas) (a .same) in
         record {
           kind = kind-of t at 6 _ BodyFact refl a;
-          known = refl;
           some = omega arith;
           lies = omega (arith, a .lies, fact-long s es);
           early = omega arith;
@@ -310,7 +315,6 @@ module _ (t arities : List ℕ) (declared : (k : ℕ) → k < length arities →
     unfolding badField strange kindOf itemBytes
     fail-passed at stage guards n l m few a = record {
       kind = kind-of t at 7 [] BodyFail refl a;
-      known = refl;
       some = omega arith;
       lies = a .lies;
       early = omega arith;
@@ -366,10 +370,10 @@ pub record RuleAt (t : List ℕ) (p : ℕ) (w : RuleTree) : Type 0 where
       ≡ 1 + 22 * (length (w .kept) + length (w .removed)) + 24 * length (w .guards) + length (eachBytes itemBytes (w .items))
 
 pub heads-long : (byte : ℕ) (hs : List HeadTree) → length (eachBytes (headBytes byte) hs) ≡ 22 * length hs
-heads-long byte hs = each-long (headBytes byte) 22 laidHead [] (headAt []) (head-long byte) hs
+heads-long byte hs = each-long (headBytes byte) 22 (head-long byte) hs
 
 pub guards-long : (gs : List GuardTree) → length (eachBytes guardBytes gs) ≡ 24 * length gs
-guards-long gs = each-long guardBytes 24 laidGuard [] (guardAt []) guard-long gs
+guards-long gs = each-long guardBytes 24 guard-long gs
 
 pub rule-at : (t : List ℕ) (p : ℕ) (w : RuleTree) → At t p (ruleBytes w) → RuleAt t p w
 unfolding ruleBytes
@@ -398,7 +402,7 @@ pub heads-decode : (t arities : List ℕ) (p byte : ℕ) (hs : List HeadTree) �
     → headsFrom t p (length hs) ≡ map laidHead hs
 heads-decode t arities p byte hs g a =
     heads-rows t p (length hs)
-    ∙ each-decode (headBytes byte) 22 laidHead t (headAt t) (head-long byte) (HeadGood arities) (λ q h w. head-decodes t q byte h (w .terms)) p hs g (a .same)
+    ∙ each-decode (headBytes byte) 22 (head-long byte) t (headAt t) laidHead (HeadGood arities) (λ q h w. head-decodes t q byte h (w .terms)) p hs g (a .same)
 
 pub map-append : {A B : Type 0} (f : A → B) (xs ys : List A) → map f xs ++ map f ys ≡ map f (xs ++ ys)
 map-append f [] ys = refl
@@ -432,7 +436,6 @@ module _ (t arities : List ℕ) (declared : (k : ℕ) → k < length arities →
       reads-next t (scanOf at stage (length arities) k shape) next shapes (set shapes k (shapeOf at 0 0 0 0)) r NextRule
       (record {
         kind = kind-of t at 2 _ NextRule refl a;
-        known = refl;
         some = omega arith;
         lies = omega (arith, a .lies);
         early = omega arith;
@@ -443,12 +446,10 @@ module _ (t arities : List ℕ) (declared : (k : ℕ) → k < length arities →
         usual = refl;
       })
       refl (omega arith) (noted-first shapes next k refl)
-      (reads-heads t arities declared small r k shapes at 3 KeptHead 2 (omega arith) (λ n. n)
-      (kept-passes t arities declared small r k shapes at) (kept-goes t arities declared small r k shapes at)
+      (reads-heads t arities declared small r k shapes at 3 KeptHead 2 (λ n. n) (omega arith) kept-kind
       (w .kept) (at + 1) 1 0 (omega arith) (omega arith) (λ x. absurd (omega arith)) (omega arith) (g .kept) (p .kept)
       (λ at1 s1 n1 e1 d1 l1 m1 w1.
-      reads-heads t arities declared small r k shapes at 4 RemovedHead 3 (omega arith) (λ n. n1)
-      (removed-passes t arities declared small r k shapes at n1) (removed-goes t arities declared small r k shapes at n1)
+      reads-heads t arities declared small r k shapes at 4 RemovedHead 3 (λ n. n1) (omega arith) (removed-kind n1)
       (w .removed) at1 s1 n1 l1 (omega arith) w1 (omega arith) (g .removed)
       (at-at t (at + 1 + 22 * length (w .kept)) at1 _ e1 (p .removed))
       (λ at2 s2 n2 e2 d2 l2 m2 w2.
@@ -499,7 +500,6 @@ reads-end t at stage m k shape shapes a e l one = record { reads = go }
     done : recordOf t (scanOf at stage m k shape) ≡ Done (at + 1)
     done = record-passes t (scanOf at stage m k shape) EndOfTable (record {
       kind = kind-of t at 8 [] EndOfTable refl a;
-      known = refl;
       some = omega arith;
       lies = a .lies;
       early = omega arith;
