@@ -114,6 +114,10 @@ unfolding answered
 output-reads r buffer zero e f k = rw k (answer-reads-back (r .store) _ f)
 output-reads r buffer (suc n) e f k = absurd (omega arith)
 
+-- no refusal is 0
+refused-not-zero : {X : Type 0} (n : ℕ) → 16 ≤ n → n ≡ 0 → X
+refused-not-zero n low e = absurd (omega arith)
+
 -- From bytes: where a run's call ends in 0, the first records of the answer, as many as the result says are stored, are read back to the run's store.
 pub answer-read : (t g : List ℕ) → AreBytes t → AreBytes g → (limit : ℕ) (buffer : List ℕ) → runOf t g limit buffer .result .number ≡ 0
     → readAnswer (runOf t g limit buffer .result .stored) (runOf t g limit buffer .answer) ≡ run (tableOf t) limit (start (goalOf g)) .store
@@ -121,7 +125,7 @@ unfolding outputOf
 answer-read t g bt bg limit buffer =
     let r = run (tableOf t) limit (start (goalOf g)) in
     run-cases (λ (o : RunOutput). o .result .number ≡ 0 → readAnswer (o .result .stored) (o .answer) ≡ r .store) t g limit buffer
-    (λ n p low high near e. absurd (omega arith))
+    (λ n p. search refused-not-zero)
     (λ k e.
     let kept = run-kept (tableOf t) (table-ranged t bt) (goalOf g) (goal-few (readOf t .symbols) g (good-goal t (readOf t .symbols) g (k .goal)))
     (goal-ranged g bg) limit in
