@@ -81,7 +81,7 @@ module _ (arities : List ℕ) (few : length arities ≤ 32) where
 
   item : (hs : List Term) (i : ItemTree) → ItemGood arities hs i → AreBytes (itemBytes i)
   unfolding itemBytes
-  item hs (fact s es) g = (omega arith, (omega (arith, g .declared .declared), places formulaBytes 11 formula 4 es))
+  item hs (fact s es) g = (omega arith, (omega (arith, g .symbol .declared), places formulaBytes 11 formula 4 es))
   item hs fail g = (omega arith, tt)
 
   rule : (w : RuleTree) → RuleGood arities w → AreBytes (ruleBytes w)

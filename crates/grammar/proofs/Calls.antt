@@ -12,6 +12,7 @@ use Rattle.model.specs.Steps.{start}
 use Rattle.model.specs.Run.{run}
 use Rattle.model.specs.Goal.{goalVerdict}
 use Rattle.model.specs.Calls.{verdictResult, checkOf, outputOf, runOf}
+use Rattle.model.proofs.Good.{good-table}
 use Rattle.grammar.specs.Tree.{TableTree, GoalFact}
 use Rattle.grammar.specs.Encode.{encode, encodeGoal}
 use Rattle.grammar.specs.WellFormed.{WellFormed, GoalGood}
@@ -23,6 +24,10 @@ use Rattle.grammar.proofs.Goals.{goal-good, goal-facts}
 pub check-encoding : (w : TableTree) → WellFormed w → checkOf (encode w) ≡ refusal 0 0
 unfolding checkOf verdictResult
 check-encoding w g = rw (encoding-good w g)
+
+-- "The longest good table has 23,681 bytes."
+pub encoding-short : (w : TableTree) → WellFormed w → length (encode w) ≤ 23681
+encoding-short w g = good-table (encode w) (encoding-good w g) .short
 
 module _ (w : TableTree) (g : WellFormed w) (fs : List GoalFact) (f : GoalGood (w .arities) fs) where
   -- the encoding of a goal that is well formed over a tree's arities is good for the tree's encoding

@@ -237,7 +237,7 @@ map-back lay back Few one (x ∷ xs) u = rw (one x (u .0), map-back lay back Few
 
 module _ (arities : List ℕ) (small : every (λ (a : ℕ). a ≤ 4) arities) where
   item-few : (hs : List Term) (i : ItemTree) → ItemGood arities hs i → FewIn i
-  item-few hs (fact s es) g = uses-few arities small s (length es) (g .declared)
+  item-few hs (fact s es) g = uses-few arities small s (length es) (g .symbol)
   item-few hs fail g = tt
 
   rule-back : (w : RuleTree) → RuleGood arities w → ruleTree (laidRule w) ≡ w

@@ -378,6 +378,10 @@ module _ (t : List ℕ) (e : readOf t .verdict ≡ Good) where
     goal = goal-back t (aritiesOf t) (arities-declared t e) (arities-small t e) fs w;
   }
 
+  -- There is no other.
+  pub only-goal : (g : List ℕ) (fs : List GoalFact) → EncodesGoal (aritiesOf t) g fs → fs ≡ goalTree (aritiesOf t) g
+  only-goal g fs q = sym (goal-reads-back fs (q .formed) .goal) ∙ ap (goalTree (aritiesOf t)) (q .bytes)
+
   -- Two well-formed goals with one encoding are equal.
   pub one-goal : (fs gs : List GoalFact) → GoalGood (aritiesOf t) fs → GoalGood (aritiesOf t) gs → encodeGoal fs ≡ encodeGoal gs → fs ≡ gs
   one-goal fs gs v w q = sym (goal-reads-back fs v .goal) ∙ ap (goalTree (aritiesOf t)) q ∙ goal-reads-back gs w .goal

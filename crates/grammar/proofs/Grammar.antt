@@ -34,7 +34,7 @@ use Rattle.grammar.proofs.Parts.{head-fits, guard-long, guard-encodes, 
 use Rattle.grammar.proofs.Parts.{fact-strange, is-fact, is-fail, item-fact, item-fail, fact-long, fact-encodes, fact-fits, uses-few}
 use Rattle.grammar.proofs.Reading.{map-append, fail-long}
 use Rattle.grammar.proofs.Bytes.{encoding-bytes}
-use Rattle.grammar.proofs.Encoded.{encoding-good}
+use Rattle.grammar.proofs.Encoded.{encoding-good, tree-back}
 
 -- ---- trees that are written from p to q
 
@@ -167,7 +167,7 @@ module _ (t : List ℕ) (u : AreBytes t) (arities : List ℕ) (declared : (k : �
         let q : anyOf (expressionStrange t start heads) (laidPlaces expressionOf noExpression 4 es) ≡ false =
         sym (ap (anyOf (expressionStrange t start heads)) (f .reads .formulas)) ∙ sym (fact-strange t start heads p) ∙ w .usual k in
         record {
-          declared = f .uses;
+          symbol = f .uses;
           formulas = f .good;
           known = any-laid expressionOf noExpression (expressionStrange t start heads) (FormulaKnown (headTerms hs)) (known-formula t start heads hs read) 4 es
               (uses-few arities small (getD t (p + 1) 0) (length es) (f .uses)) q;
@@ -352,7 +352,11 @@ pub record Encodes (t : List ℕ) (w : TableTree) : Type 0 where
 pub good-encodes : (t : List ℕ) → AreBytes t → readOf t .verdict ≡ Good → Encodes t (treeOf t)
 good-encodes t u e = record { formed = tree-formed t u e; bytes = tree-bytes t u e }
 
--- A list of numbers is made of bytes and is a good table exactly if it is the encoding of a well-formed tree. (Of one tree: one-tree.)
+-- There is no other.
+pub only-tree : (t : List ℕ) (w : TableTree) → Encodes t w → w ≡ treeOf t
+only-tree t w q = sym (tree-back w (q .formed)) ∙ ap treeOf (q .bytes)
+
+-- A list of numbers is made of bytes and is a good table exactly if it is the encoding of a well-formed tree. (Of one: only-tree.)
 pub good-exactly : (t : List ℕ) → (AreBytes t × (readOf t .verdict ≡ Good)) ↔ ((w : TableTree) × Encodes t w)
 good-exactly t = (
   λ q. (treeOf t, good-encodes t (q .0) (q .1)),

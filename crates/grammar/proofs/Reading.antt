@@ -306,7 +306,7 @@ module _ (t arities : List ℕ) (declared : (k : ℕ) → k < length arities →
           late = m;
           headed = not-one stage l;
           few = lt-leb 4 n few;
-          fields = fact-passes t arities declared small at s es (w .declared) (w .formulas) read;
+          fields = fact-passes t arities declared small at s es (w .symbol) (w .formulas) read;
           usual = fact-usual at s es (w .known) read;
         }
 

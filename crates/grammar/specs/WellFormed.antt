@@ -49,8 +49,8 @@ pub record GuardGood (hs : List Term) (g : GuardTree) : Type 0 where
   pub leftKnown : FormulaKnown hs (g .left)
   pub rightKnown : FormulaKnown hs (g .right)
 
-pub record FactGood (arities : List ℕ) (hs : List Term) (symbol : ℕ) (es : List Formula) : Type 0 where
-  pub declared : Uses arities symbol (length es)
+pub record FactGood (arities : List ℕ) (hs : List Term) (s : ℕ) (es : List Formula) : Type 0 where
+  pub symbol : Uses arities s (length es)
   pub formulas : every FormulaGood es
   pub known : every (FormulaKnown hs) es
 
