@@ -25,7 +25,7 @@ use Rattle.model.proofs.Good.{good-goal}
 use Rattle.model.proofs.Decoded.{goal-few}
 use Rattle.model.proofs.Ranges.{AreBytes, table-ranged, goal-ranged}
 use Rattle.model.proofs.Kept.{EndKept, StoredKept, rising-within, run-kept}
-use Rattle.model.proofs.Results.{run-cases}
+use Rattle.model.proofs.Results.{run-cases, stored-length}
 use Rattle.grammar.specs.Answers.{storedAt, answerFrom, readAnswer}
 use Rattle.grammar.proofs.Same.{Same, same-first, same-rest, same-left, same-right, same-at, same-self, word-decodes, word-long}
 use Rattle.grammar.proofs.Tests.{no-test}
@@ -37,10 +37,6 @@ use Rattle.grammar.proofs.Goals.{argument-decodes}
 pub record StoredFits (s : Stored) : Type 0 where
   pub id : s .id .0 < 4294967296
   pub arguments : every InRange (arguments (s .fact))
-
-stored-long : (s : Stored) → length (storedBytes s) ≡ 22
-unfolding storedBytes bytes4
-stored-long s = refl
 
 -- a word, and what stands behind it
 word-first : (a : List ℕ) (p n : ℕ) (bs : List ℕ) → Same a p (bytes4 n ++ bs) → Same a p (bytes4 n)
@@ -83,7 +79,7 @@ answer-from a p (s ∷ ss) f b =
     let here = same-left a p (storedBytes s) (answerBytes ss) b in
     go (eqb (getD a p 0) 17) (stored-kind a p s here) (stored-decodes a p s (f .0) here)
     (answer-from a (p + 22) ss (f .1)
-    (same-at a (p + length (storedBytes s)) (p + 22) (answerBytes ss) (omega (arith, stored-long s)) (same-right a p (storedBytes s) (answerBytes ss) b)))
+    (same-at a (p + length (storedBytes s)) (p + 22) (answerBytes ss) (omega (arith, stored-length s)) (same-right a p (storedBytes s) (answerBytes ss) b)))
   where
     go : (k : Bool) → k ≡ true → storedAt a p ≡ s → answerFrom a (p + 22) (length ss) ≡ ss
         → _≡_ {A = List Stored} (elim k [ true ↦ storedAt a p ∷ answerFrom a (p + 22) (length ss) | false ↦ [] ]) (s ∷ ss)

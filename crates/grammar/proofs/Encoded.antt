@@ -16,7 +16,7 @@ use Rattle.model.specs.Fields.{arityAt}
 use Rattle.model.specs.Reading.{noShape, noShapes, reading, readOf}
 use Rattle.model.specs.Table.{Table, guardAt, isFact, headsFrom, guardsFrom, itemsFrom, ruleOf, tableBy, tableOf}
 use Rattle.model.proofs.Every.{every}
-use Rattle.model.proofs.Good.{behind-fact, behind-fail}
+use Rattle.model.proofs.Good.{behind-fact, behind-fail, six-fact, seven-fail}
 use Rattle.grammar.specs.Tree.{Term, Formula, HeadTree, GuardTree, ItemTree, fact, fail, RuleTree, TableTree, headsOf, headTerms}
 use Rattle.grammar.specs.Encode.{eachBytes, symbolBytes, guardBytes, itemBytes, ruleBytes, encode}
 use Rattle.grammar.specs.WellFormed.{HeadGood, GuardGood, ItemGood, RuleGood, WellFormed}
@@ -25,7 +25,7 @@ use Rattle.grammar.specs.Layout.{headTree, guardTree, itemTree, ruleTree
 use Rattle.grammar.proofs.Same.{Same, same-first, same-rest, same-left, same-right, same-at, same-self}
 use Rattle.grammar.proofs.Places.{used-back}
 use Rattle.grammar.proofs.Tests.{term-back, unused-back, formula-back, none-back, comparator-back}
-use Rattle.grammar.proofs.Parts.{each-decode, guards-rows, guard-long, guard-decodes, fact-long, fact-decodes, fact-laid, is-fact, is-fail}
+use Rattle.grammar.proofs.Parts.{each-decode, guards-rows, guard-long, guard-decodes, fact-long, fact-decodes, fact-laid}
 use Rattle.grammar.proofs.Parts.{fail-laid, uses-few}
 use Rattle.grammar.proofs.Reading.{At, at-left, at-right, at-at, shapeAt, shapesBehind, rule-at, heads-decode, reads-symbols, reads-rules}
 use Rattle.grammar.proofs.Reading.{reads-end, fail-long}
@@ -89,11 +89,11 @@ module _ (t arities : List ℕ) where
 
   fact-first : (p x : ℕ) (es : List Formula) → Same t p (itemBytes (fact x es)) → isFact t p ≡ true
   unfolding itemBytes
-  fact-first p x es s = is-fact t p (same-first t p 6 _ s)
+  fact-first p x es s = six-fact t p (same-first t p 6 _ s)
 
   fail-first : (p : ℕ) → Same t p (itemBytes fail) → isFact t p ≡ false
   unfolding itemBytes
-  fail-first p s = is-fail t p (same-first t p 7 [] s)
+  fail-first p s = seven-fail t p (same-first t p 7 [] s)
 
   items-decode : (hs : List Term) (p : ℕ) (is : List ItemTree) → every (ItemGood arities hs) is → Same t p (eachBytes itemBytes is)
       → itemsFrom t p (length is) ≡ map laidItem is

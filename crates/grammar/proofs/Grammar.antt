@@ -18,8 +18,8 @@ use Rattle.model.specs.Table.{ruleOf, Guard, bodyFact, bodyFail, symbolAt, tabl
 use Rattle.model.proofs.Every.{every}
 use Rattle.model.proofs.Lists.{or-false-left, or-false-right}
 use Rattle.model.proofs.Ranges.{AreBytes}
-use Rattle.model.proofs.Good.{GoodRule, GoodTable, good-table, behind-fact, behind-fail}
-use Rattle.model.proofs.Decoded.{rules-few, every-shape, heads-append, heads-length, guards-length, items-length}
+use Rattle.model.proofs.Good.{GoodRule, GoodTable, good-table, behind-fact, behind-fail, six-fact, seven-fail}
+use Rattle.model.proofs.Decoded.{rules-few, every-shape, heads-append, heads-length, guards-length, items-length, item-fail}
 use Rattle.model.proofs.Whole.{ItemWhole, ItemsWhole, GuardWhole, RuleWhole, RulesWhole, TableWhole, whole-table}
 use Rattle.grammar.specs.Tree.{HeadTree, fact, fail, RuleTree, TableTree, headsOf, headTerms}
 use Rattle.grammar.specs.Encode.{eachBytes, symbolBytes, headBytes, guardBytes, itemBytes, ruleBytes, encode}
@@ -31,7 +31,7 @@ use Rattle.grammar.proofs.Places.{rowsAt}
 use Rattle.grammar.proofs.Tests.{anyOf, any-laid}
 use Rattle.grammar.proofs.Parts.{each-long, each-encode, each-good, each-laid, heads-rows, guards-rows, head-long, head-encodes, HeadFits}
 use Rattle.grammar.proofs.Parts.{head-fits, guard-long, guard-encodes, guard-fits, guard-strange, known-formula, expressionStrange, formulasAt}
-use Rattle.grammar.proofs.Parts.{fact-strange, is-fact, is-fail, item-fact, item-fail, fact-long, fact-encodes, fact-fits, uses-few}
+use Rattle.grammar.proofs.Parts.{fact-strange, item-fact, fact-long, fact-encodes, fact-fits, uses-few}
 use Rattle.grammar.proofs.Reading.{map-append, fail-long}
 use Rattle.grammar.proofs.Bytes.{encoding-bytes}
 use Rattle.grammar.proofs.Encoded.{encoding-good, tree-back}
@@ -183,7 +183,7 @@ module _ (t : List ℕ) (u : AreBytes t) (arities : List ℕ) (declared : (k : �
             → Written itemBytes (ItemGood arities (headTerms hs)) t (behindItem t p) q (map itemTree (itemsFrom t (behindItem t p) n))
             → Written itemBytes (ItemGood arities (headTerms hs)) t p q (itemTree (itemAt t p) ∷ map itemTree (itemsFrom t (behindItem t p) n))
         go (inl e) later =
-            let k = is-fact t p e in
+            let k = six-fact t p e in
             let es = usedOf formulasIn (formulasAt t p) in
             let item : itemTree (itemAt t p) ≡ fact (getD t (p + 1) 0) es = ap itemTree (item-fact t p k) ∙ fact-tree (symbolAt t (p + 1)) (formulasAt t p) in
             rw item
@@ -191,7 +191,7 @@ module _ (t : List ℕ) (u : AreBytes t) (arities : List ℕ) (declared : (k : �
             (fact-encodes t u p (getD t (p + 1) 0) es e (fact-fits t arities declared small u p (w .0 .fields k) .reads))
             (omega (arith, fact-long (getD t (p + 1) 0) es, behind-fact t p k)) (fact-good p (w .0) k) later)
         go (inr e) later =
-            let k = is-fail t p e in
+            let k = seven-fail t p e in
             let item : itemTree (itemAt t p) ≡ fail = ap itemTree (item-fail t p k) ∙ fail-tree in
             rw item
             (written-more itemBytes (ItemGood arities (headTerms hs)) t p (behindItem t p) q fail _ (fail-encodes t p e)

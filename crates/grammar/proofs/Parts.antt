@@ -22,6 +22,7 @@ use Rattle.model.specs.Table.{Head, Guard, bodyFact, bodyFail, symbolAt, headAt
 use Rattle.model.proofs.Every.{every, every-weaken}
 use Rattle.model.proofs.Lists.{or-false-left, or-false-right, or-both, every-getD}
 use Rattle.model.proofs.Ranges.{AreBytes}
+use Rattle.model.proofs.Decoded.{item-fail}
 use Rattle.grammar.specs.Tree.{Term, constant, variable, Formula, alone, applied, comparatorNumber, HeadTree, GuardTree, fact, fail, headTerms}
 use Rattle.grammar.specs.Encode.{eachBytes, placesBytes, termBytes, formulaBytes, headBytes, guardBytes, itemBytes}
 use Rattle.grammar.specs.WellFormed.{TermGood, FormulaGood, TermKnown, FormulaKnown, Uses, HeadGood}
@@ -314,22 +315,10 @@ fact-strange t start n p =
     let c : p + 24 + 11 ≡ p + 35 = omega arith in
     rw (a, b, c, or-none (expressionStrange t start n (expressionAt t (p + 35))))
 
--- as a kind byte says it
-pub is-fact : (t : List ℕ) (p : ℕ) → getD t p 0 ≡ 6 → isFact t p ≡ true
-unfolding isFact
-is-fact t p e = rw e
-
-pub is-fail : (t : List ℕ) (p : ℕ) → getD t p 0 ≡ 7 → isFact t p ≡ false
-unfolding isFact
-is-fail t p e = rw e
-
+-- a body fact, with its expressions listed
 pub item-fact : (t : List ℕ) (p : ℕ) → isFact t p ≡ true → itemAt t p ≡ bodyFact (symbolAt t (p + 1)) (formulasAt t p)
 unfolding itemAt
 item-fact t p e = rw e (fact-formulas t p)
-
-pub item-fail : (t : List ℕ) (p : ℕ) → isFact t p ≡ false → itemAt t p ≡ bodyFail
-unfolding itemAt
-item-fail t p e = rw e
 
 pub fact-long : (s : ℕ) (es : List Formula) → length (itemBytes (fact s es)) ≡ 46
 unfolding itemBytes

@@ -17,7 +17,7 @@ use Rattle.model.specs.declared.Slot.the-variants.{Unused, Constant, Variable, 
 use Rattle.model.specs.declared.Expression.{Expression}
 use Rattle.model.specs.Slots.{slotBy, slotAt, expressionAt}
 use Rattle.model.proofs.Ranges.{AreBytes}
-use Rattle.model.proofs.Lists.{every-getD}
+use Rattle.model.proofs.Lists.{every-getD, either}
 use Rattle.grammar.specs.Tree.{Term, constant, variable, Formula, alone, applied, operationNumber}
 use Rattle.grammar.specs.Encode.{termBytes, unusedSlot, formulaBytes}
 use Rattle.grammar.specs.WellFormed.{TermGood, FormulaGood}
@@ -32,10 +32,6 @@ SlotTells tag value Unused = (tag ≡ 0) × (value ≡ 0)
 SlotTells tag value (Constant z) = (tag ≡ 1) × (signedOf value ≡ z)
 SlotTells tag value (Variable v) = (tag ≡ 2) × (value ≡ v) × (v ≤ 15)
 SlotTells tag value Bad = Unit {0}
-
-either : (P : Slot → Type 0) (c : Bool) (x y : Slot) → (c ≡ true → P x) → (c ≡ false → P y) → P (cond c x y)
-either P true x y p q = p refl
-either P false x y p q = q refl
 
 slot-tells : (tag value : ℕ) → SlotTells tag value (slotBy tag value)
 unfolding slotBy

@@ -17,7 +17,7 @@ use Rattle.model.specs.Fields.{placeBad, topOf}
 use Rattle.model.specs.Variables.{isVariable}
 use Rattle.model.specs.Table.{Head}
 use Rattle.model.proofs.Every.{every}
-use Rattle.model.proofs.Lists.{or-false-left, or-false-right, or-both}
+use Rattle.model.proofs.Lists.{or-false-left, or-false-right, or-true, or-both}
 use Rattle.grammar.specs.Tree.{Term, constant, variable, Operation, sum, difference, product, quotient, remainder, operationNumber, HeadTree}
 use Rattle.grammar.specs.Tree.{headTerms, Formula, alone, applied, Comparator, equal, unequal, less, atMost, greater, atLeast, comparatorNumber}
 use Rattle.grammar.specs.WellFormed.{TermGood, FormulaGood}
@@ -217,10 +217,6 @@ or-true-right : (a b : Bool) → b ≡ true → (a || b) ≡ true
 or-true-right true b e = refl
 or-true-right false b e = e
 
-or-cases : (a b : Bool) → (a || b) ≡ true → (a ≡ true) ⊎ (b ≡ true)
-or-cases true b e = inl refl
-or-cases false b e = inr e
-
 variable-number : (v w : ℕ) → variable v ≡ variable w → v ≡ w
 variable-number v w e = cc
 
@@ -246,7 +242,7 @@ module _ (v : ℕ) where
   unfolding laidPlaces isVariable
   have-slots zero xs e = no-test (sym e)
   have-slots (suc n) [] e = have-slots n [] e
-  have-slots (suc n) (x ∷ xs) e = go (or-cases (isVariable (slotOf x) v) _ e) (have-slots n xs)
+  have-slots (suc n) (x ∷ xs) e = go (or-true (isVariable (slotOf x) v) _ e) (have-slots n xs)
     where
       go : (isVariable (slotOf x) v ≡ true) ⊎ (slotsHave v (laidPlaces slotOf Unused n xs) ≡ true)
           → (slotsHave v (laidPlaces slotOf Unused n xs) ≡ true → List·Memᴰ (variable v) xs) → List·Memᴰ (variable v) (x ∷ xs)
@@ -268,7 +264,7 @@ module _ (v : ℕ) where
   pub have-heads : (hs : List HeadTree) → headsHave v (map laidHead hs) ≡ true → List·Memᴰ (variable v) (headTerms hs)
   unfolding laidHead
   have-heads [] e = no-test (sym e)
-  have-heads (h ∷ hs) e = go (or-cases (slotsHave v (laidPlaces slotOf Unused 4 (h .terms))) _ e) (have-heads hs)
+  have-heads (h ∷ hs) e = go (or-true (slotsHave v (laidPlaces slotOf Unused 4 (h .terms))) _ e) (have-heads hs)
     where
       go : (slotsHave v (laidPlaces slotOf Unused 4 (h .terms)) ≡ true) ⊎ (headsHave v (map laidHead hs) ≡ true)
           → (headsHave v (map laidHead hs) ≡ true → List·Memᴰ (variable v) (headTerms hs)) → List·Memᴰ (variable v) (h .terms ++ headTerms hs)

@@ -31,6 +31,7 @@ use Rattle.model.specs.Reading.{withItem, behind, fieldsOf, orderedOf, t
 use Rattle.model.specs.Table.{isFact, behindItem, headsStart, itemsStart}
 use Rattle.model.specs.Goal.{laterBad, laterPlacesBad, goalFactBad, factsVerdict, goalVerdict}
 use Rattle.wire.specs.Wire.{u32At}
+use Rattle.model.proofs.Lists.{or-false-left, or-false-right, either}
 
 -- a body item lies in the table, and the symbol of a body fact is declared
 pub record ItemIn (t : List ℕ) (symbols p : ℕ) : Type 0 where
@@ -238,33 +239,25 @@ module _ (t : List ℕ) (s : Scan) (shapes : List RuleShape) (h : Sane t s shape
 
 -- ---- what the tests of a record tell
 
-or-first : (a b : Bool) → (a || b) ≡ false → a ≡ false
-or-first true b e = e
-or-first false b e = refl
-
-or-second : (a b : Bool) → (a || b) ≡ false → b ≡ false
-or-second true b e = cc
-or-second false b e = e
-
 not-both : (b : Bool) → b ≡ false → b ≡ true → ⊥
 not-both b e d = let z : _≡_ {A = ℕ} 0 1 = cc in omega arith
 
 module _ (k : Kind) (stage : ℕ) (e : outOfOrder k stage ≡ false) where
   pub not-early : earliestOf k ≤ stage
   unfolding outOfOrder
-  not-early = ltb-false stage (earliestOf k) (or-first (ltb stage (earliestOf k)) (ltb (latestOf k) stage) e)
+  not-early = ltb-false stage (earliestOf k) (or-false-left (ltb stage (earliestOf k)) (ltb (latestOf k) stage) e)
 
   pub not-late : stage ≤ latestOf k
   unfolding outOfOrder
-  not-late = ltb-false (latestOf k) stage (or-second (ltb stage (earliestOf k)) (ltb (latestOf k) stage) e)
+  not-late = ltb-false (latestOf k) stage (or-false-right (ltb stage (earliestOf k)) (ltb (latestOf k) stage) e)
 
 head-declared : (t : List ℕ) (at symbols : ℕ) → headBad t at symbols ≡ false → getD t (at + 1) 0 < symbols
 unfolding headBad
-head-declared t at symbols e = leb-false symbols (getD t (at + 1) 0) (or-first (leb symbols (getD t (at + 1) 0)) _ e)
+head-declared t at symbols e = leb-false symbols (getD t (at + 1) 0) (or-false-left (leb symbols (getD t (at + 1) 0)) _ e)
 
 fact-declared : (t : List ℕ) (at symbols : ℕ) → bodyFactBad t at symbols ≡ false → getD t (at + 1) 0 < symbols
 unfolding bodyFactBad
-fact-declared t at symbols e = leb-false symbols (getD t (at + 1) 0) (or-first (leb symbols (getD t (at + 1) 0)) _ e)
+fact-declared t at symbols e = leb-false symbols (getD t (at + 1) 0) (or-false-left (leb symbols (getD t (at + 1) 0)) _ e)
 
 -- the byte of a kind
 abbrev pub KindByte : ℕ → Kind → Type 0
@@ -277,10 +270,6 @@ KindByte b BodyFact = b ≡ 6
 KindByte b BodyFail = b ≡ 7
 KindByte b EndOfTable = b ≡ 8
 KindByte b Unknown = Unit {0}
-
-either : (P : Kind → Type 0) (c : Bool) (x y : Kind) → (c ≡ true → P x) → (c ≡ false → P y) → P (cond c x y)
-either P true x y p q = p refl
-either P false x y p q = q refl
 
 kind-byte : (b : ℕ) → KindByte b (kindOf b)
 unfolding kindOf
@@ -661,14 +650,14 @@ later-test arity place value e l = eqb-true value 0 (not-false (eqb value 0) (rw
 later-zero : (arity : ℕ) (g : List ℕ) (p : ℕ) → laterPlacesBad arity g p ≡ false → (k : ℕ) → k < 4 → arity ≤ k → u32At g (p + 4 * k) ≡ 0
 unfolding laterPlacesBad
 later-zero arity g p e =
-    let a = or-second (laterBad arity 0 (u32At g p)) _ e in
-    let b = or-second (laterBad arity 1 (u32At g (p + 4))) _ a in
+    let a = or-false-right (laterBad arity 0 (u32At g p)) _ e in
+    let b = or-false-right (laterBad arity 1 (u32At g (p + 4))) _ a in
     let z : p + 4 * 0 ≡ p = omega arith in
     below-four (λ (k : ℕ). arity ≤ k → u32At g (p + 4 * k) ≡ 0)
-    (rw z (later-test arity 0 (u32At g p) (or-first (laterBad arity 0 (u32At g p)) _ e)))
-    (later-test arity 1 (u32At g (p + 4)) (or-first (laterBad arity 1 (u32At g (p + 4))) _ a))
-    (later-test arity 2 (u32At g (p + 8)) (or-first (laterBad arity 2 (u32At g (p + 8))) _ b))
-    (later-test arity 3 (u32At g (p + 12)) (or-second (laterBad arity 2 (u32At g (p + 8))) _ b))
+    (rw z (later-test arity 0 (u32At g p) (or-false-left (laterBad arity 0 (u32At g p)) _ e)))
+    (later-test arity 1 (u32At g (p + 4)) (or-false-left (laterBad arity 1 (u32At g (p + 4))) _ a))
+    (later-test arity 2 (u32At g (p + 8)) (or-false-left (laterBad arity 2 (u32At g (p + 8))) _ b))
+    (later-test arity 3 (u32At g (p + 12)) (or-false-right (laterBad arity 2 (u32At g (p + 8))) _ b))
 
 abbrev pub GoalIs : List ℕ → ℕ → List ℕ → Verdict → Type 0
 GoalIs t symbols g Good = WholeGoal t symbols g
@@ -682,18 +671,18 @@ module _ (t : List ℕ) (symbols : ℕ) (g : List ℕ) where
 
   goal-fact-kind : (p : ℕ) → goalFactBad t symbols g p ≡ false → getD g p 0 ≡ 16
   unfolding goalFactBad
-  goal-fact-kind p e = eqb-true (getD g p 0) 16 (not-false (eqb (getD g p 0) 16) (or-first (not (eqb (getD g p 0) 16)) _ e))
+  goal-fact-kind p e = eqb-true (getD g p 0) 16 (not-false (eqb (getD g p 0) 16) (or-false-left (not (eqb (getD g p 0) 16)) _ e))
 
   goal-fact-declared : (p : ℕ) → goalFactBad t symbols g p ≡ false → getD g (p + 1) 0 < symbols
   unfolding goalFactBad
   goal-fact-declared p e =
-      leb-false symbols (getD g (p + 1) 0) (or-first (leb symbols (getD g (p + 1) 0)) _ (or-second (not (eqb (getD g p 0) 16)) _ e))
+      leb-false symbols (getD g (p + 1) 0) (or-false-left (leb symbols (getD g (p + 1) 0)) _ (or-false-right (not (eqb (getD g p 0) 16)) _ e))
 
   goal-fact-later : (p : ℕ) → goalFactBad t symbols g p ≡ false → (k : ℕ) → k < 4 → arityAt t (getD g (p + 1) 0) ≤ k → u32At g (p + 2 + 4 * k) ≡ 0
   unfolding goalFactBad
   goal-fact-later p e =
       later-zero (arityAt t (getD g (p + 1) 0)) g (p + 2)
-      (or-second (leb symbols (getD g (p + 1) 0)) _ (or-second (not (eqb (getD g p 0) 16)) _ e))
+      (or-false-right (leb symbols (getD g (p + 1) 0)) _ (or-false-right (not (eqb (getD g p 0) 16)) _ e))
 
   one-fact : (k n : ℕ) → goalFactBad t symbols g (18 * k) ≡ false → (v : Verdict) → FactsAre (k + 1) n v → FactsAre k (suc n) v
   one-fact k n e Good u = λ i l m. first-or-later i m (eq-or-lt-of-le l)

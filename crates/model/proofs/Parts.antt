@@ -30,7 +30,7 @@ use Rattle.model.specs.Table.{noRule, ruleAt}
 use Rattle.model.specs.Matching.{arguments}
 use Rattle.model.specs.Goal.{factAt, goalVerdict, goalOf}
 use Rattle.model.proofs.Every.{every, every-by, every-map, every-both, every-weaken}
-use Rattle.model.proofs.Lists.{every-getD, or-false-left, or-false-right}
+use Rattle.model.proofs.Lists.{every-getD, or-false-left, or-false-right, or-true, never}
 use Rattle.model.proofs.Good.{GoodRule, good-table, whole-goal, below-four}
 use Rattle.model.proofs.Whole.{ItemWhole, ItemsWhole, GuardWhole, RuleWhole, RulesWhole, whole-table}
 use Rattle.model.proofs.Decoded.{heads-more, heads-length, heads-at, guards-length, guards-at, items-none, items-more, rule-heads}
@@ -179,9 +179,6 @@ slot-small t p = go (eqb (getD t p 0) 0) (eqb (getD t p 0) 1) (eqb (getD t p 0) 
     go false false true z false e = tt
     go false false false z l e = tt
 
-never : {A : Type 0} → true ≡ false → A
-never e = absurd (let z : _≡_ {A = ℕ} 0 1 = cc in omega arith)
-
 place-is : (used : Bool) (s : Slot) → SmallSlot s → placeBad used s ≡ false → PlaceIs used s
 unfolding placeBad
 place-is true Unused k e = never e
@@ -205,10 +202,6 @@ is-that Unused v e = never (sym e)
 is-that (Constant z) v e = never (sym e)
 is-that (Variable w) v e = ap Variable (sym (eqb-true w v e))
 is-that Bad v e = never (sym e)
-
-or-true : (a b : Bool) → (a || b) ≡ true → (a ≡ true) ⊎ (b ≡ true)
-or-true true b e = inl refl
-or-true false b e = inr e
 
 module _ (t : List ℕ) (v : ℕ) where
   head-has : (p : ℕ) → headHas t p v ≡ true → List·Memᴰ (Variable v) (headAt t p .slots)

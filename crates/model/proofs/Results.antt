@@ -83,7 +83,7 @@ run-cases P t g limit buffer refuses goes = call-cases P t g limit buffer (λ n 
 
 -- ---- the answer
 
-stored-length : (s : Stored) → length (storedBytes s) ≡ 22
+pub stored-length : (s : Stored) → length (storedBytes s) ≡ 22
 unfolding storedBytes bytes4
 stored-length s = refl
 

@@ -28,10 +28,8 @@ use Rattle.model.specs.Guards.{unbound, variableValue, slotValue, expressionVal
 use Rattle.model.specs.Matching.{boundIf, withVariable, matchVariable, matchSlot, andSlot, matchSlots, arguments, matchHead}
 use Rattle.model.proofs.Every.{every}
 use Rattle.model.proofs.Sound.{same-symbol}
+use Rattle.model.proofs.Lists.{never}
 use Rattle.semantics.specs.Instances.{PartOf, SlotIs, SlotsAre, HeadIs}
-
-never : {A : Type 0} → true ≡ false → A
-never e = absurd (let z : _≡_ {A = ℕ} 0 1 = cc in omega arith)
 
 -- ---- bindings
 
