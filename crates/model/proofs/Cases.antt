@@ -236,6 +236,12 @@ cases =
     ∷ checks (symbol 0 then rule then finish) (refused 21 3)
     ∷ checks (symbol 1 then rule then kept 0 (X ∷ []) then test 0 (only Y) (only X) then finish) (refused 22 25)
     ∷ checks (symbol 0 then finish then zeros 2) (refused 23 3)
+    -- the order of a record's tests, where two of them fail
+    ∷ checks (2 ∷ []) (refused 17 1)
+    ∷ checks (times 32 (symbol 0) then 1 ∷ []) (refused 17 64)
+    ∷ checks (symbol 0 then rule then kept 0 [] then symbol 9 then finish) (refused 18 25)
+    ∷ checks (symbol 0 then rule then times 4 (kept 0 []) then failing then kept 0 [] then finish) (refused 18 92)
+    ∷ checks (symbol 0 then rule then test 6 (only (num (pos 1))) (only (num (pos 1))) then finish) (refused 21 3)
     -- a run's tests, in their order
     ∷ case (9 ∷ []) (1 ∷ []) 20000001 (refused 16 0) []
     ∷ runs [] (1 ∷ []) 20000001 0 (refused 17 0) []
@@ -251,6 +257,10 @@ cases =
     ∷ case copies (fact 0 (pos 5 ∷ pos 6 ∷ [])) most (refused 33 0) []
     ∷ runs tableA (mu 7 310) 20000001 2815 (refused 35 0) []
     ∷ runs tableA (mu 7 310) 20000000 2815 (refused 36 0) []
+    -- a goal's tests, in their order; 64 facts are good
+    ∷ runs (symbol 0 then finish) (times 65 (bare 9) then 1 ∷ []) 0 0 (refused 32 0) []
+    ∷ runs (symbol 0 then finish) (bare 1 then bare 1) 0 0 (refused 33 0) []
+    ∷ runs (symbol 0 then finish) (times 64 (bare 0)) 0 0 (refused 36 0) []
     -- weighings
     ∷ weighs (9 ∷ []) [] [] (refused 16 0 ++ (0 ∷ 0 ∷ []))
     ∷ weighs tableA [] (mu 7 310) (refused 40 0 ++ (0 ∷ 0 ∷ []))
@@ -261,6 +271,15 @@ cases =
     ∷ weighs tableA (1 ∷ []) (1 ∷ []) (refused 32 0 ++ (0 ∷ 0 ∷ []))
     ∷ weighs halves (3 ∷ 1 ∷ []) (bare 0 then bare 0) (refused 0 0 ++ (6 ∷ 49 ∷ []))
     ∷ weighs negative (1 ∷ []) (fact 0 (minus 1 ∷ [])) (refused 0 0 ++ (1 ∷ 5 ∷ []))
+    -- M is the most places of one symbol
+    ∷ weighs (symbol 0 then symbol 0 then rule then removed 0 [] then rule then removed 1 [] then finish) (1 ∷ 1 ∷ []) (bare 0) (refused 0 0 ++ (1 ∷ 5 ∷ []))
+    -- a weighing's tests, in their order, each with its place
+    ∷ weighs (symbol 0 then bare 0) [] [] (refused 16 2 ++ (0 ∷ 0 ∷ []))
+    ∷ weighs tableA (0 ∷ 0 ∷ []) (1 ∷ []) (refused 40 0 ++ (0 ∷ 0 ∷ []))
+    ∷ weighs halves (0 ∷ 0 ∷ []) (1 ∷ []) (refused 41 0 ++ (0 ∷ 0 ∷ []))
+    ∷ weighs (symbol 0 then rule then removed 0 [] then rule then removed 0 [] then adds 0 [] then rule then kept 0 [] then finish) (1 ∷ []) []
+    (refused 42 1 ++ (0 ∷ 0 ∷ []))
+    ∷ weighs tableA (1 ∷ []) (mu 7 310 then bare 1) (refused 33 1 ++ (0 ∷ 0 ∷ []))
     -- Those of hundreds of steps come last, the shortest first: a wrong definition is found at the first case that it gets wrong.
     -- the history: 264 entries, of which never more than eight are held
     ∷ case (notes 8 (rule then removed 0 [])) (times 33 (bare 0)) most (0 ∷ 0 ∷ 594 ∷ 297 ∷ 33 ∷ 0 ∷ []) []
