@@ -46,6 +46,7 @@ use Rattle.semantics.specs.Instances.{HeadsAre, Matching}
 use Rattle.semantics.specs.Values.{SlotBound, ExpressionBound, ResultIs, sum, difference, product, quotient}
 use Rattle.semantics.specs.Values.{remainder, NoValue, zeroDivisor, outOfRange, Lacks, GuardLacks, BodyLacks}
 use Rattle.semantics.specs.Refined.{Enabled}
+use Rattle.semantics.proofs.Match.{behindFirst}
 use Rattle.semantics.proofs.Substitutions.{stands-value, enabled-by-any}
 
 -- ---- each slot is a number
@@ -211,7 +212,7 @@ guards-lack θ [] l u e = absurd (let z : _≡_ {A = ℕ} 0 1 = cc in omega arit
 guards-lack θ (g ∷ gs) l u e = go (comparisonValue θ g) refl (guards-lack θ gs (l .1) (u .1)) e
   where
     go : (x : Truth) → comparisonValue θ g ≡ x → (guardValue θ gs ≡ Unknown → GuardLacks θ gs)
-        → elim x [ True ↦ guardValue θ gs | False ↦ False | Unknown ↦ Unknown ] ≡ Unknown → GuardLacks θ (g ∷ gs)
+        → behindFirst θ gs x ≡ Unknown → GuardLacks θ (g ∷ gs)
     go True q ih e =
         let r = ih e in
         record {

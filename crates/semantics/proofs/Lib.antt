@@ -15,3 +15,4 @@ pub mod Held
 pub mod Published
 pub mod Runs
 pub mod Located
+pub mod Meant

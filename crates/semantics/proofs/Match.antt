@@ -3,7 +3,7 @@
 -- behind the other.
 use Prim.Native.Nat.{ℕ, zero, suc, _<_}
 use native.Mathlib.Omega.{arith}
-use mathlib.Core.Path.{_≡_, refl, sym, _∙_, ap, subst}
+use mathlib.Core.Path.{_≡_, refl, sym, _∙_, ap}
 use mathlib.Core.Bool.{Bool, true, false, cond}
 use mathlib.Core.Option.{Option, none, some}
 use mathlib.Core.List.{List, [], _∷_}
@@ -201,25 +201,20 @@ head-matched h f b k = go (sameSymbol (h .symbol) (f .symbol)) refl
 
 -- ---- guards
 
+-- what a guard list comes to behind its first comparison
+abbrev pub behindFirst : Binding → List Guard → Truth → Truth
+behindFirst b gs v = elim v [ True ↦ guardValue b gs | False ↦ False | Unknown ↦ Unknown ]
+
 -- where each comparison has the same value, so has the guard list
 pub guards-by : (b c : Binding) (gs : List Guard) → every (λ (g : Guard). comparisonValue b g ≡ comparisonValue c g) gs → guardValue b gs ≡ guardValue c gs
 unfolding guardValue
 guards-by b c [] u = refl
-guards-by b c (g ∷ gs) u = go (comparisonValue b g) (comparisonValue c g) (u .0) (guards-by b c gs (u .1))
+guards-by b c (g ∷ gs) u = ap (behindFirst b gs) (u .0) ∙ same (comparisonValue c g) (guards-by b c gs (u .1))
   where
-    same : (x : Truth) → guardValue b gs ≡ guardValue c gs
-        → _≡_ {A = Truth} (elim x [ True ↦ guardValue b gs | False ↦ False | Unknown ↦ Unknown ])
-        (elim x [ True ↦ guardValue c gs | False ↦ False | Unknown ↦ Unknown ])
+    same : (x : Truth) → guardValue b gs ≡ guardValue c gs → behindFirst b gs x ≡ behindFirst c gs x
     same True e = e
     same False e = refl
     same Unknown e = refl
-
-    go : (x y : Truth) → x ≡ y → guardValue b gs ≡ guardValue c gs
-        → _≡_ {A = Truth} (elim x [ True ↦ guardValue b gs | False ↦ False | Unknown ↦ Unknown ])
-        (elim y [ True ↦ guardValue c gs | False ↦ False | Unknown ↦ Unknown ])
-    go x y e ih =
-        subst (λ (w : Truth). _≡_ {A = Truth} (elim x [ True ↦ guardValue b gs | False ↦ False | Unknown ↦ Unknown ])
-        (elim w [ True ↦ guardValue c gs | False ↦ False | Unknown ↦ Unknown ])) e (same x ih)
 
 -- two bindings, each part of the other, give a guard the same value
 
