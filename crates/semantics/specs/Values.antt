@@ -1,6 +1,6 @@
 -- Values under a matching substitution: what it is for a guard and a body to have all their variables bound, what a guard list and a body come to, why an
--- expression has no value, and what a run that ends in 3 or 4 has met. "Each operation is exact; its value is undefined if it lies outside -2,147,483,648..2,147,483,647 or the
--- divisor is 0."
+-- expression has no value, and what a run that ends in 3 or 4 has met. "Each operation is exact; its value is undefined if it lies outside
+-- -2,147,483,648..2,147,483,647 or the divisor is 0."
 use Prim.Native.Nat.{ℕ}
 use mathlib.Core.Path.{_≡_}
 use mathlib.Core.Bool.{Bool, true, false}
