@@ -61,7 +61,7 @@ laidRule r = record {
 unfoldable pub laid : TableTree → Table
 laid w = record { symbols = length (w .arities); rules = map laidRule (w .rules) }
 
--- a goal fact: "Places that the symbol does not use are zero."
+-- a goal fact, with 0 for each argument that its symbol does not use
 unfoldable pub laidFact : GoalFact → Fact
 laidFact f = record {
   symbol = numbered (f .symbol);
