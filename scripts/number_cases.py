@@ -1,27 +1,30 @@
 #!/usr/bin/env python3
 """Write the cases of crates/number_cases and the lines that it must print: the files stdin and stdout of a folder.
 
-The rules are worked out here on Python's whole numbers, from the text alone and not from the code that is tested.
+The rules are worked out here on Python's whole numbers and fractions, from the text alone and not from the code that is tested.
 """
 import argparse
+import fractions
 import itertools
+import math
 import pathlib
 
 LOWEST, HIGHEST = -(2**31), 2**31 - 1
-NUMBERS = [LOWEST, LOWEST + 1, -46341, -7, -2, -1, 0, 1, 2, 7, 46341, HIGHEST - 1, HIGHEST]
+# -3 and 3 by 5 are the temperatures on both sides of 0 that have to be in different classes of five degrees.
+NUMBERS = [LOWEST, LOWEST + 1, -46341, -7, -5, -3, -2, -1, 0, 1, 2, 3, 5, 7, 46341, HIGHEST - 1, HIGHEST]
 UNDEFINED = None
 EVALUATE, COMPARE, READ, WRITE = range(4)
 LAST_PLACE = 2**64 - 1
 
 
 def quotient(a, b):
-    cut = abs(a) // abs(b)
-    return cut if (a < 0) == (b < 0) else -cut
+    """The greatest whole number not above the exact quotient."""
+    return math.floor(fractions.Fraction(a, b))
 
 
 def remainder(a, b):
-    left = abs(a) % abs(b)
-    return -left if a < 0 else left
+    """What the dividend has beyond the divisor times that quotient; 0, or of the divisor's sign."""
+    return a - b * quotient(a, b)
 
 
 def operation(number, a, b):

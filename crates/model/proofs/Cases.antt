@@ -30,8 +30,8 @@ use Rattle.model.specs.Steps.{isRemoved, fired, stepWith}
 use Rattle.model.specs.Fields.{placeBad, arityAt, placesBad, topOf, expressionBad, argumentsBad, headBad, guardBad, bodyFactBad, badField}
 use Rattle.model.specs.Slots.{slotBy, slotAt, expressionAt}
 use Rattle.wire.specs.Wire.{u32At, signedOf, bitsOf, i32At, bytes4}
-use Rattle.numbers.specs.Numbers.{inRange, exact, unlessZero, sumOf, differenceOf, productOf, quotientOf, remainderOf, operate, onNumbers, evaluate}
-use Rattle.numbers.specs.Numbers.{holds, judge, compare}
+use Rattle.numbers.specs.Numbers.{inRange, exact, unlessZero, sumOf, differenceOf, productOf, floorZ, modZ, quotientOf, remainderOf, operate, onNumbers}
+use Rattle.numbers.specs.Numbers.{evaluate, holds, judge, compare}
 
 abbrev X : Term
 X = var 0
@@ -109,7 +109,7 @@ undone = symbol 1 then symbol 1 then rule then kept 0 (X ∷ []) then adds 1 (on
 ratios : Bytes
 ratios = symbol 0 then symbol 2 then rule then kept 0 [] then removed 1 (X ∷ Y ∷ []) then test 4 (op 4 X Y) (only (num (pos 3))) then failing then finish
 
--- n(X,Y) <=> o(X+Y, X-Y, X*Y, X/Y), r(X rem Y)
+-- n(X,Y) <=> o(X+Y, X-Y, X*Y, X/Y), r(X mod Y)
 works : Bytes
 works =
     symbol 2 then symbol 4 then symbol 1 then rule then removed 0 (X ∷ Y ∷ [])
@@ -211,7 +211,9 @@ cases =
     ∷ case ratios (fact 1 (pos 1 ∷ pos 0 ∷ []) then fact 1 (pos 8 ∷ pos 2 ∷ []) then bare 0) most (3 ∷ 0 ∷ 7 ∷ 0 ∷ 3 ∷ 3 ∷ []) []
     -- operations, comparators, constants and repeated variables; the body's order; an argument behind a fail
     ∷ case works (fact 0 (minus 7 ∷ pos 2 ∷ [])) most (0 ∷ 0 ∷ 6 ∷ 1 ∷ 3 ∷ 2 ∷ [])
-    (stored 2 1 (minus 5 ∷ minus 9 ∷ minus 14 ∷ minus 3 ∷ []) then stored 3 2 (minus 1 ∷ []))
+    (stored 2 1 (minus 5 ∷ minus 9 ∷ minus 14 ∷ minus 4 ∷ []) then stored 3 2 (pos 1 ∷ []))
+    ∷ case works (fact 0 (minus 7 ∷ minus 2 ∷ [])) most (0 ∷ 0 ∷ 6 ∷ 1 ∷ 3 ∷ 2 ∷ [])
+    (stored 2 1 (minus 9 ∷ minus 5 ∷ pos 14 ∷ pos 3 ∷ []) then stored 3 2 (minus 1 ∷ []))
     ∷ case fourTests (mu 0 4 then mu 3 4 then mu 5 4 then fact 0 (minus 1 ∷ pos 4 ∷ []) then mu 1 5) most (0 ∷ 0 ∷ 16 ∷ 1 ∷ 6 ∷ 5 ∷ [])
     (stored 2 1 (pos 0 ∷ pos 4 ∷ []) then stored 3 0 (pos 3 ∷ pos 4 ∷ []) then stored 4 0 (pos 5 ∷ pos 4 ∷ [])
     then stored 5 0 (minus 1 ∷ pos 4 ∷ []) then stored 6 0 (pos 1 ∷ pos 5 ∷ []))
@@ -331,7 +333,7 @@ unfolding tableA mu copies pairs divides counts negative twoB minus triangles pa
     runWith run withVariable matchVariable matchSlot andSlot matchSlots matchHead kindOf outOfOrder start argumentValues itemEntry bodyEntries keep
     gone without names pruned activated advanced dropped isRemoved fired stepWith placeBad arityAt placesBad topOf expressionBad argumentsBad headBad
     guardBad bodyFactBad badField slotBy slotAt expressionAt u32At signedOf bitsOf i32At bytes4 inRange exact unlessZero sumOf differenceOf productOf
-    quotientOf remainderOf operate onNumbers evaluate holds judge compare
+    floorZ modZ quotientOf remainderOf operate onNumbers evaluate holds judge compare
 workedRuns = tt
 
 -- ---- the numbers of a run: each is that of one case or more, on bytes and a limit of 32 bits

@@ -1,2 +1,4 @@
--- The laws that the proofs of `numbers` share.
+-- That quotient and remainder are the ones meant, and the laws that the proofs of `numbers` share.
+pub mod Division
 pub mod Machine
+pub mod Rounding

@@ -2,12 +2,13 @@
 -- number that went from 32 to 64 bits, and tests on bits.
 use mathlib.Core.Path.{_≡_, refl, sym, ap, subst, _∙_}
 use mathlib.Core.Bool.{Bool, true, false, cond}
-use Prim.Native.Nat.{ℕ, zero, suc, _+_, _-_, _*_, _/_, _^_, _≤_, _<_}
-use native.Mathlib.Nat.{mul-le-mul, div-le-self}
+use mathlib.Core.Logic.{_≢_}
+use Prim.Native.Nat.{ℕ, zero, suc, _+_, _-_, _*_, _^_, _≤_, _<_}
+use native.Mathlib.Nat.{mul-le-mul}
 use native.Mathlib.Omega.{arith}
 use lib.Dec.{T, ltb, eqb}
 use lib.IntN.{ℤ, pos, negsuc, negℤ, subℕ, _+ℤ_, _-ℤ_, _*ℤ_}
-use lib.Signed.{mag, ltZ, quotZ, remZ, mag-rem}
+use lib.Signed.{mag, ltZ}
 use mir.Syntax.{w32, w64}
 use mir.Val.{SFits, toZ, ofZ}
 use mir.Facts.{toZ-ofZ, sfits-widen, sfits-lit}
@@ -50,7 +51,7 @@ mag-cond false x y n p q = q
 mag-sub : (a b : ℕ) → mag (subℕ a b) ≤ a + b
 mag-sub a b = mag-cond (ltb a b) (negsuc (b - suc a)) (pos (a - b)) (a + b) (omega arith) (omega arith)
 
-mag-sum : (a b : ℤ) → mag (a +ℤ b) ≤ mag a + mag b + 1
+pub mag-sum : (a b : ℤ) → mag (a +ℤ b) ≤ mag a + mag b + 1
 mag-sum (pos a) (pos b) = omega arith
 mag-sum (pos a) (negsuc b) = omega (arith, mag-sub a (suc b))
 mag-sum (negsuc a) (pos b) = omega (arith, mag-sub b (suc a))
@@ -60,21 +61,15 @@ mag-neg : (n : ℕ) → mag (negℤ (pos n)) ≤ n
 mag-neg zero = omega arith
 mag-neg (suc n) = omega arith
 
-mag-negate : (a : ℤ) → mag (negℤ a) ≤ mag a + 1
+pub mag-negate : (a : ℤ) → mag (negℤ a) ≤ mag a + 1
 mag-negate (pos n) = omega (arith, mag-neg n)
 mag-negate (negsuc n) = omega arith
-
-mag-quot : (a b : ℤ) → mag (quotZ a b) ≤ mag a + 1
-mag-quot (pos a) (pos b) = omega (arith, div-le-self a b)
-mag-quot (pos a) (negsuc b) = omega (arith, mag-neg (a / suc b), div-le-self a (suc b))
-mag-quot (negsuc a) (pos b) = omega (arith, mag-neg (suc a / b), div-le-self (suc a) b)
-mag-quot (negsuc a) (negsuc b) = omega (arith, div-le-self (suc a) (suc b))
 
 -- a product of two numbers of 2 ^ 31 + 1 at most
 mul-small : (a b : ℕ) → a ≤ 2147483649 → b ≤ 2147483649 → a * b ≤ 4611686022722355201
 mul-small a b p q = mul-le-mul p q
 
-mag-prod : (a b : ℤ) → mag a ≤ 2147483648 → mag b ≤ 2147483648 → mag (a *ℤ b) ≤ 4611686022722355201
+pub mag-prod : (a b : ℤ) → mag a ≤ 2147483648 → mag b ≤ 2147483648 → mag (a *ℤ b) ≤ 4611686022722355201
 mag-prod (pos a) (pos b) p q = mul-small a b (omega arith) (omega arith)
 mag-prod (pos a) (negsuc b) p q = omega (arith, mag-neg (a * suc b), mul-small a (suc b) (omega arith) (omega arith))
 mag-prod (negsuc a) (pos b) p q = omega (arith, mag-neg (suc a * b), mul-small (suc a) b (omega arith) (omega arith))
@@ -90,12 +85,6 @@ module _ (a b : ℤ) (fa : SFits w32 a) (fb : SFits w32 b) where
   pub product-fits : SFits w64 (a *ℤ b)
   product-fits = record { sfits = omega (arith, mag-prod a b (omega arith) (omega arith)) }
 
-  pub quotient-fits : SFits w64 (quotZ a b)
-  quotient-fits = record { sfits = omega (arith, mag-quot a b) }
-
-  pub remainder-fits : SFits w64 (remZ a b)
-  remainder-fits = record { sfits = omega (arith, mag-rem a b) }
-
 -- ---- what the machine reads back of a number that went from 32 to 64 bits
 
 abbrev pub wide : ℤ → ℤ
@@ -104,7 +93,7 @@ wide z = toZ w64 (ofZ w64 (toZ w32 (ofZ w32 z)))
 pub cast-fits : {z : ℤ} → SFits w32 z → SFits w64 (toZ w32 (ofZ w32 z))
 cast-fits f = simp toZ-ofZ (sfits-widen tt f)
 
-wide-is : {z : ℤ} → SFits w32 z → wide z ≡ z
+pub wide-is : {z : ℤ} → SFits w32 z → wide z ≡ z
 wide-is {z} f = let g : SFits w64 z = sfits-widen tt f in simp toZ-ofZ
 
 -- an operation whose result fits 64 bits, on two such numbers: the machine's result fits, and is the operation's
@@ -141,10 +130,6 @@ pub by-other : (v : Value) {b : ℤ} → SFits w32 b → (ofZ w32 b ≡ 0 → �
 unfolding unlessZero
 by-other v {b} f e = simp (sym (bits-equal b (pos 0) f (sfits-lit tt)) ∙ ne-eqb _ _ e)
 
--- a divisor whose bits are not 0 has bits above 0 at 64 bits too
-above : (b : ℤ) → SFits w32 b → (ofZ w32 b ≡ 0 → ⊥) → 0 < ofZ w64 b
-above (pos b) f e = omega arith
-above (negsuc b) f e = omega (arith, f .sfits)
-
-pub divides : {b : ℤ} → SFits w32 b → (ofZ w32 b ≡ 0 → ⊥) → 0 < ofZ w64 (toZ w32 (ofZ w32 b))
-divides {b} f e = simp toZ-ofZ (above b f e)
+-- a divisor whose bits are not 0 is not 0
+pub read-other : {b : ℤ} → SFits w32 b → (ofZ w32 b ≡ 0 → ⊥) → toZ w32 (ofZ w32 b) ≢ pos 0
+read-other {b} f h e = h (ap (ofZ w32) (sym (toZ-ofZ f) ∙ e))

@@ -1,9 +1,9 @@
 -- The definition: what an expression and a comparison come to, over the whole numbers.
 use mathlib.Core.Bool.{Bool, true, false, not, cond, _&&_}
-use Prim.Native.Nat.{ℕ}
+use Prim.Native.Nat.{ℕ, suc, _/_}
 use lib.Dec.{eqb, leb}
-use lib.IntN.{ℤ, pos, negsuc, _+ℤ_, _-ℤ_, _*ℤ_}
-use lib.Signed.{ltZ, leZ, quotZ, remZ}
+use lib.IntN.{ℤ, pos, negsuc, negℤ, _+ℤ_, _-ℤ_, _*ℤ_}
+use lib.Signed.{ltZ, leZ}
 use Rattle.numbers.specs.declared.Value.{Value}
 use Rattle.numbers.specs.declared.Value.the-variants.{Number, Undefined}
 use Rattle.numbers.specs.declared.Truth.{Truth}
@@ -46,13 +46,25 @@ differenceOf a b = exact (a -ℤ b)
 unfoldable pub productOf : ℤ → ℤ → Value
 productOf a b = exact (a *ℤ b)
 
--- "The quotient is cut toward zero"
-unfoldable pub quotientOf : ℤ → ℤ → Value
-quotientOf a b = unlessZero b (exact (quotZ a b))
+-- by a divisor above 0, rounded down; `negsuc n`, which is -(n + 1), by d comes to -(n / d + 1)
+abbrev pub down : ℤ → ℕ → ℤ
+down (pos n) d = pos (n / d)
+down (negsuc n) d = negsuc (n / d)
 
--- "the remainder takes the dividend's sign"
+-- "The quotient must be the greatest whole number not above the exact one"; by a divisor below 0 it is that of both numbers with their signs turned
+unfoldable pub floorZ : ℤ → ℤ → ℤ
+floorZ a (pos b) = down a b
+floorZ a (negsuc b) = down (negℤ a) (suc b)
+
+-- what the quotient leaves of the dividend; "the remainder takes the divisor's sign" (`division`)
+unfoldable pub modZ : ℤ → ℤ → ℤ
+modZ a b = a -ℤ b *ℤ floorZ a b
+
+unfoldable pub quotientOf : ℤ → ℤ → Value
+quotientOf a b = unlessZero b (exact (floorZ a b))
+
 unfoldable pub remainderOf : ℤ → ℤ → Value
-remainderOf a b = unlessZero b (exact (remZ a b))
+remainderOf a b = unlessZero b (exact (modZ a b))
 
 -- ---- expressions: "An expression is an operation byte and two slots"
 

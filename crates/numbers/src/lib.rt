@@ -1,6 +1,10 @@
 // Exact whole numbers of 32 bits: the operations of expressions and the comparators of guards.
 // No function here has a `requires`: each takes every input, and its contract gives the one result that the definition gives.
 ghost use mathlib.Core.Path.{_≡_};
+ghost use mathlib.Core.Bool.{cond};
+ghost use mathlib.Core.Logic.{_≢_};
+ghost use lib.IntN.{pos, negsuc, negℤ, _-ℤ_};
+ghost use lib.Signed.{ltZ};
 ghost use Rattle.numbers.specs.Numbers as Numbers;
 
 // What an expression comes to.
@@ -52,24 +56,59 @@ pub fn product(a: i32, b: i32) -> Value
     narrow((a as i64) * (b as i64))
 }
 
-// Cut toward zero.
+// x, with its sign turned where the divisor b is below 0.
+fn turned(x: i32, b: i32) -> i64
+    ensures { λ r. ⌜ r ≡ cond (ltZ b (pos 0)) (negℤ x) x ⌝ }
+{
+    if b < 0 {
+        return 0 - (x as i64);
+    }
+    x as i64
+}
+
+// x, or where it is asked for the number that lies across from it: -1 for 0, -2 for 1, and back.
+fn mirrored(x: i64, across: bool) -> i64
+    ensures { λ r. ⌜ r ≡ cond across (negsuc 0 -ℤ x) x ⌝ }
+{
+    if across {
+        return -1 - x;
+    }
+    x
+}
+
+// a by b, rounded down. Numbers that are not below 0 are divided, since there a cut is no other than rounding down: the signs are turned so
+// that the divisor is above 0, and a dividend that is then below 0 is mirrored, and so is its quotient.
+fn floor(a: i32, b: i32) -> i64
+    requires { ⌜ b ≢ pos 0 ⌝ }
+    ensures { λ r. ⌜ r ≡ Numbers.floorZ a b ⌝ }
+{
+    let up = turned(a, b);
+    let below = up < 0;
+    let dividend = mirrored(up, below) as u32;
+    let divisor = turned(b, b) as u32;
+    let quotient = (dividend / divisor) as i64;
+    mirrored(quotient, below)
+}
+
+// The greatest whole number not above the exact one.
 pub fn quotient(a: i32, b: i32) -> Value
     ensures { λ r. ⌜ r ≡ Numbers.quotientOf a b ⌝ }
 {
     if b == 0 {
         return Value::Undefined;
     }
-    narrow((a as i64) / (b as i64))
+    narrow(floor(a, b))
 }
 
-// With the dividend's sign.
+// What the quotient leaves of a: 0, or of the divisor's sign.
 pub fn remainder(a: i32, b: i32) -> Value
     ensures { λ r. ⌜ r ≡ Numbers.remainderOf a b ⌝ }
 {
     if b == 0 {
         return Value::Undefined;
     }
-    narrow((a as i64) % (b as i64))
+    let product = (b as i64) * floor(a, b);
+    narrow((a as i64) - product)
 }
 
 // The operation of that number on two numbers.

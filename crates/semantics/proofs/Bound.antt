@@ -11,7 +11,6 @@ use mathlib.Core.Option.{Option, none, some}
 use mathlib.Core.Logic.{_⊎_, inl, inr, _↔_}
 use mathlib.Core.List.{List, [], _∷_, List·Memᴰ, List·Memᴰ·head, List·Memᴰ·tail}
 use lib.IntN.{ℤ, pos, _+ℤ_, _-ℤ_, _*ℤ_}
-use lib.Signed.{quotZ, remZ}
 use lib.Dec.{ltb}
 use lib.ListN.{length, getD, getElem?}
 use borrow.Author.Tests.{le-leb, ltb-true, ltb-false}
@@ -19,7 +18,7 @@ use Rattle.numbers.specs.declared.Value.{Value}
 use Rattle.numbers.specs.declared.Value.the-variants.{Number, Undefined}
 use Rattle.numbers.specs.declared.Truth.{Truth}
 use Rattle.numbers.specs.declared.Truth.the-variants.{True, False, Undefined as Unknown}
-use Rattle.numbers.specs.Numbers.{inRange, exact, equal, unlessZero, sumOf, differenceOf, productOf, quotientOf, remainderOf, operate, onNumbers}
+use Rattle.numbers.specs.Numbers.{inRange, exact, equal, unlessZero, sumOf, differenceOf, productOf, floorZ, modZ, quotientOf, remainderOf, operate, onNumbers}
 use Rattle.numbers.specs.Numbers.{evaluate, holds, told, judge, compare}
 use Rattle.numbers.specs.Laws.{equal-same, equal-is}
 use Rattle.model.specs.declared.FactId.{FactId}
@@ -134,8 +133,8 @@ operation-lacks zero a b l e = never e
 operation-lacks (suc zero) a b l e = outOfRange (a +ℤ b) sum (exact-lacks (a +ℤ b) e)
 operation-lacks (suc (suc zero)) a b l e = outOfRange (a -ℤ b) difference (exact-lacks (a -ℤ b) e)
 operation-lacks (suc (suc (suc zero))) a b l e = outOfRange (a *ℤ b) product (exact-lacks (a *ℤ b) e)
-operation-lacks (suc (suc (suc (suc zero)))) a b l e = divided-lacks 4 a b (quotZ a b) (inl refl) quotient e
-operation-lacks (suc (suc (suc (suc (suc zero))))) a b l e = divided-lacks 5 a b (remZ a b) (inr refl) remainder e
+operation-lacks (suc (suc (suc (suc zero)))) a b l e = divided-lacks 4 a b (floorZ a b) (inl refl) quotient e
+operation-lacks (suc (suc (suc (suc (suc zero))))) a b l e = divided-lacks 5 a b (modZ a b) (inr refl) remainder e
 operation-lacks (suc (suc (suc (suc (suc (suc n)))))) a b l e = absurd (omega arith)
 
 expression-lacks : (θ : Binding) (e : Expression) → Ready θ e → expressionValue θ e ≡ Undefined → Lacks θ e
@@ -176,8 +175,8 @@ result-outside op a b z (remainder d) e = divided-outside b z e
 
 no-value : (op : ℕ) (a b : ℤ) → NoValue op a b → evaluate op (Number a) (Number b) ≡ Undefined
 unfolding evaluate onNumbers operate quotientOf remainderOf
-no-value op a b (zeroDivisor (inl e) z) = rw e (divided-zero b (exact (quotZ a b)) z)
-no-value op a b (zeroDivisor (inr e) z) = rw e (divided-zero b (exact (remZ a b)) z)
+no-value op a b (zeroDivisor (inl e) z) = rw e (divided-zero b (exact (floorZ a b)) z)
+no-value op a b (zeroDivisor (inr e) z) = rw e (divided-zero b (exact (modZ a b)) z)
 no-value op a b (outOfRange z r e) = result-outside op a b z r e
 
 pub lacks-value : (θ : Binding) (e : Expression) → Lacks θ e → expressionValue θ e ≡ Undefined

@@ -7,11 +7,10 @@ use mathlib.Core.Bool.{Bool, true, false}
 use mathlib.Core.Logic.{_⊎_}
 use mathlib.Core.List.{List, [], _∷_, _++_, List·Memᴰ}
 use lib.IntN.{ℤ, pos, _+ℤ_, _-ℤ_, _*ℤ_}
-use lib.Signed.{quotZ, remZ}
 use Rattle.numbers.specs.declared.Value.the-variants.{Number, Undefined}
 use Rattle.numbers.specs.declared.Truth.{Truth}
 use Rattle.numbers.specs.declared.Truth.the-variants.{True, False, Undefined as Unknown}
-use Rattle.numbers.specs.Numbers.{inRange, holds}
+use Rattle.numbers.specs.Numbers.{inRange, floorZ, modZ, holds}
 use Rattle.model.specs.declared.FactId.{FactId}
 use Rattle.model.specs.declared.Symbol.{Symbol}
 use Rattle.model.specs.declared.Fact.{Fact}
@@ -79,8 +78,8 @@ pub data ResultIs (a b : ℤ) : ℕ → ℤ → Type 0 where
   sum : ResultIs a b 1 (a +ℤ b)
   difference : ResultIs a b 2 (a -ℤ b)
   product : ResultIs a b 3 (a *ℤ b)
-  quotient : (b ≡ pos 0 → ⊥) → ResultIs a b 4 (quotZ a b)
-  remainder : (b ≡ pos 0 → ⊥) → ResultIs a b 5 (remZ a b)
+  quotient : (b ≡ pos 0 → ⊥) → ResultIs a b 4 (floorZ a b)
+  remainder : (b ≡ pos 0 → ⊥) → ResultIs a b 5 (modZ a b)
 
 -- why an operation on a and b has no value: "the divisor is 0", or the exact result "lies outside" the range
 pub data NoValue (operation : ℕ) (a b : ℤ) : Type 0 where

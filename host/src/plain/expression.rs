@@ -57,12 +57,32 @@ impl Expression {
             1 => a.checked_add(b),
             2 => a.checked_sub(b),
             3 => a.checked_mul(b),
-            4 => a.checked_div(b),
-            // The lowest number by -1 leaves 0, which `checked_rem` does not give.
-            _ if b == 0 => None,
-            _ => Some(a.wrapping_rem(b)),
+            4 => quotient(a, b),
+            _ => remainder(a, b),
         }
     }
+}
+
+/// The greatest whole number not above the exact quotient, or nothing if it is undefined.
+fn quotient(a: i32, b: i32) -> Option<i32> {
+    let cut = a.checked_div(b)?;
+    Some(cut - i32::from(is_cut_upward(a % b, b)))
+}
+
+/// The remainder that goes with that quotient, or nothing by 0.
+fn remainder(a: i32, b: i32) -> Option<i32> {
+    if b == 0 {
+        return None;
+    }
+    // The lowest number by -1 leaves 0, which `checked_rem` does not give.
+    let left = a.wrapping_rem(b);
+    Some(left + b * i32::from(is_cut_upward(left, b)))
+}
+
+/// Whether the machine's division, which cuts toward zero and leaves this, cuts upward: something
+/// is left, and not of the divisor's sign. Without a branch, since the signs of readings vary.
+fn is_cut_upward(left: i32, b: i32) -> bool {
+    (left != 0) & ((left ^ b) < 0)
 }
 
 /// Whether a comparison is true.
@@ -74,5 +94,44 @@ pub fn holds(comparator: u8, a: i32, b: i32) -> bool {
         3 => a <= b,
         4 => a > b,
         _ => a >= b,
+    }
+}
+
+#[cfg(test)]
+mod tests {
+    use super::{Expression, Slot, CONSTANT};
+    use crate::format::VARIABLES;
+    use crate::reference::numbers::Operation;
+
+    /// Small numbers and the ends of the range.
+    fn numbers() -> impl Iterator<Item = i32> {
+        let ends = [i32::MIN, i32::MIN + 1, i32::MAX - 1, i32::MAX];
+        (-9..=9).chain(ends)
+    }
+
+    fn value(operation: u8, a: i32, b: i32) -> Option<i32> {
+        let [first, second] = [a, b].map(|value| Slot {
+            tag: CONSTANT,
+            value,
+        });
+        let expression = Expression {
+            operation,
+            first,
+            second,
+        };
+        expression.value(&[0; VARIABLES])
+    }
+
+    #[test]
+    fn every_operation_agrees_with_the_reference_at_its_edges() {
+        for byte in 1..=5 {
+            let operation = Operation::from_byte(byte).expect("an operation");
+            for a in numbers() {
+                for b in numbers() {
+                    let expected = operation.apply(a, b);
+                    assert_eq!(value(byte, a, b), expected, "{:?} {} {}", operation, a, b);
+                }
+            }
+        }
     }
 }

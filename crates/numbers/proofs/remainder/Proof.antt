@@ -1,10 +1,10 @@
--- `numbers::remainder` meets its contract: at 64 bits the quotient fits, which the machine asks of a remainder too.
--- Assumes nothing.
+-- `numbers::remainder` meets its contract: by 0 there is none, and by any other number it is what the quotient leaves; at 64 bits neither the product nor
+-- the difference can wrap. Assumes nothing.
 use borrow.Author.Needs.{needs}
 use mathlib.Core.Path.{sym, _∙_}
-use lib.Signed.{quotZ, remZ}
 use Rattle.numbers.specs.Numbers.{remainderOf}
-use Rattle.numbers.proofs.Machine.{cast-fits, op-fits, op-exact, quotient-fits, remainder-fits, by-zero, by-other, divides}
+use Rattle.numbers.proofs.Machine.{cast-fits, by-zero, by-other, read-other}
+use Rattle.numbers.proofs.Rounding.{product-fits, rest-fits, remainder-exact}
 use Rattle.numbers.proofs.remainder.Statement.{statement}
 use Rattle.numbers.proofs.remainder.Tie as tie
 
@@ -15,9 +15,11 @@ remainder-spec =
     (tie.spec
     (λ c. sym (by-zero _ (c .before .fits .b) (c .if1 .taken)))
     (λ c. search (cast-fits, needs))
+    (λ c κs. read-other (c .before .fits .b) (c .if1 .left))
+    (λ c. let f = c .before .before .fits in product-fits (f .a) (f .b) (c .floor .ensures))
     (λ c. search (cast-fits, needs))
-    (λ c. (divides (c .before .fits .b) (c .if1 .left), op-fits quotZ quotient-fits (c .before .fits .a) (c .before .fits .b)))
+    (λ c. let f = c .before .before .fits in rest-fits (f .a) (f .b) (c .floor .ensures))
     (λ c κs. search needs)
     (λ c.
-    let s = c .before .before in
-    c .narrow .ensures ∙ op-exact remZ remainder-fits (s .fits .a) (s .fits .b) ∙ sym (by-other _ (s .fits .b) (c .before .if1 .left))))
+    let f = c .before .before .before .fits in
+    c .narrow .ensures ∙ remainder-exact (f .a) (f .b) (c .before .floor .ensures) ∙ sym (by-other _ (f .b) (c .before .before .if1 .left))))
