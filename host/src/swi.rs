@@ -217,15 +217,15 @@ fn variable(variable: &Variable) -> String {
     format!("V{}", variable.0)
 }
 
-/// In SWI-Prolog `//` is cut toward zero unless a flag says otherwise, and `rem` takes the
-/// dividend's sign.
+/// In SWI-Prolog `div` is the greatest whole number not above the exact quotient, and `mod` takes
+/// the divisor's sign. Both are names, so they need a blank on either side.
 fn operation_text(operation: Operation) -> &'static str {
     match operation {
         Operation::Sum => "+",
         Operation::Difference => "-",
         Operation::Product => "*",
-        Operation::Quotient => "//",
-        Operation::Remainder => "rem",
+        Operation::Quotient => "div",
+        Operation::Remainder => "mod",
     }
 }
 

@@ -46,17 +46,25 @@ fn symbols_goals_and_heads() {
 fn guards_that_can_be_undefined_are_one_predicate() {
     let text = "k/2. k(A, B) <=> B \\= 0, A / B > B % -2 | true. k(A, B) <=> 1 / 0 = 0 | true.";
     let exact = [
-        "guard0(V1, V0) :- V1 =\\= 0, value(3, V0 // V1, T0), value(3, V1 rem -2, T1), T0 > T1.",
+        "guard0(V1, V0) :- V1 =\\= 0, value(3, V0 div V1, T0), value(3, V1 mod -2, T1), T0 > T1.",
         "s0(V0, V1) <=> guard0(V1, V0) | true.",
-        "guard1 :- value(3, 1 // 0, T0), T0 =:= 0.",
+        "guard1 :- value(3, 1 div 0, T0), T0 =:= 0.",
         "s0(V0, V1) <=> guard1 | true.",
     ];
     assert_eq!(exported(text, Arithmetic::Exact)[2..], exact);
     let native = [
-        "s0(V0, V1) <=> V1 =\\= 0, V0 // V1 > V1 rem -2 | true.",
-        "s0(V0, V1) <=> 1 // 0 =:= 0 | true.",
+        "s0(V0, V1) <=> V1 =\\= 0, V0 div V1 > V1 mod -2 | true.",
+        "s0(V0, V1) <=> 1 div 0 =:= 0 | true.",
     ];
     assert_eq!(exported(text, Arithmetic::Native)[2..], native);
+}
+
+#[test]
+fn quotients_and_remainders_of_numbers_below_zero_keep_their_minus() {
+    let text = "p/1. p(A) <=> p(-7 / A), p(-7 % -2), p(A / -2).";
+    let native = "s0(V0) <=> T0 is -7 div V0, T1 is -7 mod -2, T2 is V0 div -2, \
+        s0(T0), s0(T1), s0(T2).";
+    assert_eq!(exported(text, Arithmetic::Native)[2..], [native]);
 }
 
 #[test]
