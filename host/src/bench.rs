@@ -3,4 +3,6 @@
 #[cfg(feature = "library")]
 pub mod libraries;
 pub mod loads;
+pub mod older;
+pub mod quotients;
 pub mod timing;

@@ -95,8 +95,8 @@ impl Lent {
         &self.result[..last.map_or(0, |last| last + 1)]
     }
 
-    /// In what an older library's call differs, if it does: it did other work. A result may have got
-    /// longer since, so the words that both have are compared.
+    /// In what an older library's call differs, if it does. A result may have got longer since, so
+    /// the words that both have are compared.
     pub fn difference(&self, old: &Lent) -> Option<String> {
         let both = self.words().len().min(old.words().len());
         let (ours, theirs) = (&self.words()[..both], &old.words()[..both]);

@@ -9,10 +9,20 @@ pub struct Load {
     pub name: String,
     pub table: Vec<u8>,
     pub goal: Vec<u8>,
+    pub old_answer: OldAnswer,
+}
+
+/// What an older library has to give for a load.
+#[derive(Clone, Copy, Debug, PartialEq, Eq)]
+pub enum OldAnswer {
+    /// The same as the new one; otherwise it did other work.
+    Same,
+    /// Something else at times: it may cut quotients of numbers below zero toward zero.
+    MayDiffer,
 }
 
 /// Readings of a cycle.
-const READINGS: i32 = 64;
+pub const READINGS: i32 = 64;
 
 /// What a gateway runs in a cycle: 64 readings, with rules of two, three and four heads. Before
 /// them a call with none, which shows what each call takes whatever it runs.
@@ -30,6 +40,7 @@ fn nothing() -> Load {
         name: "table A, no readings".to_string(),
         table: table_a(),
         goal: Vec::new(),
+        old_answer: OldAnswer::Same,
     }
 }
 
@@ -39,6 +50,7 @@ fn lowest(segments: i32) -> Load {
         name: format!("table A, {}", on(segments)),
         table: table_a(),
         goal: readings(|reading| (0, [reading % segments, friction(reading)])),
+        old_answer: OldAnswer::Same,
     }
 }
 
@@ -64,6 +76,7 @@ fn middle() -> Load {
         name: format!("three heads, {}", on(4)),
         table: table(&[2], &[rule]),
         goal: readings(|reading| (0, [reading % 4, friction(reading)])),
+        old_answer: OldAnswer::Same,
     }
 }
 
@@ -82,6 +95,7 @@ fn four_wheels() -> Load {
         name: "four heads, 64 readings of four wheels on 16 segments".to_string(),
         table: table(&[2; 6], &[meet]),
         goal: readings(|reading| ((reading % 4) as u8, [reading / 4, friction(reading)])),
+        old_answer: OldAnswer::Same,
     }
 }
 
@@ -91,7 +105,7 @@ fn friction(reading: i32) -> i32 {
 }
 
 /// A goal of 64 facts with two arguments.
-fn readings(reading: impl Fn(i32) -> (u8, [i32; 2])) -> Vec<u8> {
+pub fn readings(reading: impl Fn(i32) -> (u8, [i32; 2])) -> Vec<u8> {
     facts(READINGS, reading)
 }
 
@@ -115,6 +129,7 @@ pub fn chain(heads: u32, stored: i32) -> Load {
         name: format!("{}, {} facts stored", counted(heads, "head"), stored),
         table: table(&[2, 2], &[two, linked(heads)]),
         goal: facts(stored / 2, |at| (1, [at, at + 1])),
+        old_answer: OldAnswer::Same,
     }
 }
 

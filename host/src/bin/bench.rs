@@ -1,10 +1,13 @@
 //! `bench`: the proved library against the plain engine on the same loads, in one process, in
 //! turns. Prints, for each load, what the run came to, microseconds a call of both, and the
 //! library's share of the plain engine's time: the median and the middle half of the rounds. With
-//! an older library (feature `old_library`) the same of that one, behind the rest of the line.
+//! an older library (feature `old_library`) the same of that one, behind the rest of the line, and
+//! whether it gives the same.
 
 use nadhirukh_host::bench::libraries::{Lent, Library, NEW, OLD};
-use nadhirukh_host::bench::loads::{chain, cycles, Load};
+use nadhirukh_host::bench::loads::{chain, cycles, Load, OldAnswer};
+use nadhirukh_host::bench::older::Standing;
+use nadhirukh_host::bench::quotients::quotients;
 use nadhirukh_host::bench::timing::{compare, worker, Compared};
 use nadhirukh_host::build::table_a;
 use nadhirukh_host::cases::edges;
@@ -24,6 +27,10 @@ fn main() {
     for load in cycles() {
         run(&load);
     }
+    heading("run, quotients");
+    for load in quotients() {
+        run(&load);
+    }
     heading("run, growth");
     for heads in 1..=4 {
         for stored in [16, 32, 64, 128] {
@@ -34,7 +41,10 @@ fn main() {
 
 fn heading(what: &str) {
     let [names, lines] = match OLD {
-        Some(_) => [" old, µs | ratio to old | middle half |", "---|---|---|"],
+        Some(_) => [
+            " old, µs | ratio to old | middle half | old gives |",
+            "---|---|---|---|",
+        ],
         None => ["", ""],
     };
     println!(
@@ -54,6 +64,7 @@ fn longest() -> Vec<u8> {
 fn check(name: &str, table: &[u8]) {
     measure(
         name,
+        OldAnswer::Same,
         |library, lent| library.check(table, lent),
         |_| plain::check(table),
     );
@@ -63,15 +74,17 @@ fn run(load: &Load) {
     let (table, goal) = (&load.table, &load.goal);
     measure(
         &load.name,
+        load.old_answer,
         |library, lent| library.run(table, goal, MAX_LIMIT, lent),
         |answer| plain::run(table, goal, MAX_LIMIT, answer),
     );
 }
 
-/// A load, given as a library's call and the plain engine's, which writes to an answer. All have to
-/// give the same; an older library that does not is left out, and what it gives is said.
+/// A load, given as a library's call and the plain engine's, which writes to an answer. The two have
+/// to give the same. An older library that gives something else where it may not is left out.
 fn measure(
     name: &str,
+    old_answer: OldAnswer,
     call: impl Fn(&Library, &mut Lent) -> u32,
     plain: impl Fn(&mut [u8]) -> Outcome,
 ) {
@@ -80,21 +93,21 @@ fn measure(
     call(&NEW, &mut new);
     let outcome = plain(&mut answer);
     assert_eq!((&outcome.words()[..], answer), (new.words(), new.answer));
-    let difference = OLD.and_then(|library| {
+    let standing = OLD.map(|library| {
         call(&library, &mut old);
-        new.difference(&old)
+        Standing::new(new.difference(&old), old_answer)
     });
     let mut workers = vec![
         worker(|| call(&NEW, &mut new)),
         worker(|| plain(&mut answer).number),
     ];
-    if let (Some(library), None) = (&OLD, &difference) {
+    if let (Some(library), Some(true)) = (&OLD, standing.as_ref().map(Standing::is_timed)) {
         workers.push(worker(|| call(library, &mut old)));
     }
-    print(name, &outcome, &compare(workers), difference);
+    print(name, &outcome, &compare(workers), standing);
 }
 
-fn print(name: &str, outcome: &Outcome, compared: &Compared, difference: Option<String>) {
+fn print(name: &str, outcome: &Outcome, compared: &Compared, standing: Option<Standing>) {
     print!(
         "| {} | {} | {} | {:.2} |{}",
         name,
@@ -103,10 +116,10 @@ fn print(name: &str, outcome: &Outcome, compared: &Compared, difference: Option<
         compared.time(0) / 1e3,
         against(compared, PLAIN)
     );
-    match (OLD, difference) {
-        (None, _) => println!(),
-        (Some(_), None) => println!("{}", against(compared, OLDER)),
-        (Some(_), Some(difference)) => println!(" not comparable: {} | | |", difference),
+    match standing {
+        None => println!(),
+        Some(old) if old.is_timed() => println!("{} {} |", against(compared, OLDER), old),
+        Some(old) => println!(" | | | {} |", old),
     }
 }
 

@@ -1,0 +1,171 @@
+//! The loads of the benchmark, and what is said of an older library's answers to them.
+
+use std::collections::BTreeMap;
+
+use nadhirukh_host::bench::loads::{chain, cycles, Load, OldAnswer};
+use nadhirukh_host::bench::older::Standing;
+use nadhirukh_host::bench::quotients::quotients;
+use nadhirukh_host::ending::Ending;
+use nadhirukh_host::format::{ANSWER_LEN, MAX_LIMIT};
+use nadhirukh_host::outcome::Outcome;
+use nadhirukh_host::reference::numbers::Operation;
+use nadhirukh_host::reference::state::Fact;
+use nadhirukh_host::reference::table::{Expression, Item, Rule, Table};
+use nadhirukh_host::reference::{self, check, goal};
+use nadhirukh_host::{names::Symbol, plain};
+
+fn table(load: &Load) -> Table {
+    check::read(&load.table).expect("a load's table is good")
+}
+
+fn facts(load: &Load) -> Vec<Fact> {
+    goal::read(&load.goal, &table(load)).expect("a load's goal is good")
+}
+
+/// What a load's run comes to, on which both engines agree to the byte.
+fn run(load: &Load) -> (Outcome, Vec<Fact>) {
+    let (mut answer, mut plain_answer) = ([0; ANSWER_LEN], [0; ANSWER_LEN]);
+    let outcome = reference::run(&load.table, &load.goal, MAX_LIMIT, &mut answer);
+    let plain_outcome = plain::run(&load.table, &load.goal, MAX_LIMIT, &mut plain_answer);
+    assert_eq!(plain_outcome, outcome, "{}", load.name);
+    assert_eq!(plain_answer, answer, "{}", load.name);
+    (outcome, Ending::of_run(&outcome, &answer).facts)
+}
+
+/// The segment and temperature of each fact of a goal.
+fn temperatures(load: &Load) -> Vec<(i32, i32)> {
+    let reading = |fact: &Fact| (fact.arguments[0], fact.arguments[1]);
+    facts(load).iter().map(reading).collect()
+}
+
+/// The loads that divide: in frost, then in mild weather, of each rule.
+fn by_rule() -> [[Load; 2]; 2] {
+    match <[Load; 4]>::try_from(quotients()) {
+        Ok([class_frost, class_mild, colder_frost, colder_mild]) => {
+            [[class_frost, class_mild], [colder_frost, colder_mild]]
+        }
+        Err(loads) => panic!("{} loads divide", loads.len()),
+    }
+}
+
+/// A fact of a symbol with two places.
+fn fact(symbol: u8, first: i32, second: i32) -> Fact {
+    Fact {
+        symbol: Symbol(symbol),
+        arguments: [first, second, 0, 0],
+    }
+}
+
+fn divides(rule: &Rule) -> bool {
+    let guards = rule
+        .guards
+        .iter()
+        .flat_map(|guard| [guard.left, guard.right]);
+    let arguments = rule.body.iter().flat_map(|item| match item {
+        Item::Fact { arguments, .. } => arguments.clone(),
+        Item::Fail => Vec::new(),
+    });
+    guards.chain(arguments).any(|expression| match expression {
+        Expression::Of(operation, ..) => {
+            [Operation::Quotient, Operation::Remainder].contains(&operation)
+        }
+        Expression::Alone(_) => false,
+    })
+}
+
+#[test]
+fn runs_are_done_and_both_engines_agree() {
+    for load in cycles().iter().chain(&quotients()) {
+        assert_eq!(run(load).0.number, 0, "{}", load.name);
+    }
+}
+
+#[test]
+fn an_older_library_may_differ_only_where_a_number_below_zero_can_be_divided() {
+    let chains = (1..=4).map(|heads| chain(heads, 128));
+    for load in cycles().into_iter().chain(quotients()).chain(chains) {
+        let below_zero = |fact: &Fact| fact.arguments.iter().any(|argument| *argument < 0);
+        let can_be = table(&load).rules.iter().any(divides) && facts(&load).iter().any(below_zero);
+        let may_differ = load.old_answer == OldAnswer::MayDiffer;
+        assert_eq!(may_differ, can_be, "{}", load.name);
+    }
+}
+
+#[test]
+fn half_of_the_temperatures_in_frost_are_below_zero_and_none_in_mild_weather() {
+    for [frost, mild] in by_rule() {
+        let below_zero = |load: &Load| temperatures(load).iter().filter(|(_, t)| *t < 0).count();
+        assert_eq!(temperatures(&frost).len(), 64);
+        assert_eq!(below_zero(&frost), 32);
+        assert_eq!(temperatures(&mild).len(), 64);
+        assert_eq!(below_zero(&mild), 0);
+    }
+}
+
+#[test]
+fn which_temperatures_are_below_zero_has_no_short_pattern() {
+    for [frost, _] in by_rule() {
+        let below: Vec<bool> = temperatures(&frost).iter().map(|(_, t)| *t < 0).collect();
+        for period in 1..=32 {
+            let repeated = below.iter().zip(&below[period..]);
+            let alike = repeated.filter(|(one, next)| one == next).count();
+            // A pattern of this length would bring each one back, or each one's opposite.
+            let pairs = below.len() - period;
+            assert!(4 * alike > pairs && 4 * alike < 3 * pairs, "{}", period);
+        }
+    }
+}
+
+#[test]
+fn every_temperature_gets_the_class_whose_five_degrees_it_lies_in() {
+    let [loads, _] = by_rule();
+    for load in loads {
+        let (outcome, left) = run(&load);
+        let classes = temperatures(&load).into_iter().map(|(segment, t)| {
+            let class = (-20..20).find(|class| (5 * class..5 * class + 5).contains(&t));
+            fact(1, segment, class.expect("there is one"))
+        });
+        assert_eq!(outcome.firings, 64);
+        assert_eq!(Ending::new(0, classes.collect()).facts, left);
+    }
+}
+
+#[test]
+fn the_coldest_of_each_class_is_kept_on_each_segment() {
+    let [_, loads] = by_rule();
+    for load in loads {
+        let (outcome, left) = run(&load);
+        let mut coldest = BTreeMap::new();
+        for (segment, t) in temperatures(&load) {
+            let kept = coldest.entry((segment, t.div_euclid(5))).or_insert(t);
+            *kept = t.min(*kept);
+        }
+        let kept = coldest
+            .iter()
+            .map(|((segment, _), t)| fact(0, *segment, *t));
+        assert_eq!(Ending::new(0, kept.collect()).facts, left);
+        assert_eq!(outcome.firings as usize, 64 - coldest.len());
+        assert!(outcome.firings > 0);
+    }
+}
+
+#[test]
+fn frost_and_mild_weather_are_the_same_work() {
+    for [frost, mild] in by_rule() {
+        assert_eq!(run(&frost).0, run(&mild).0);
+    }
+}
+
+#[test]
+fn an_older_library_is_timed_unless_it_did_other_work() {
+    let difference = || Some("the answers differ".to_string());
+    let same = Standing::new(None, OldAnswer::Same);
+    let same_by_chance = Standing::new(None, OldAnswer::MayDiffer);
+    let other = Standing::new(difference(), OldAnswer::MayDiffer);
+    let wrong = Standing::new(difference(), OldAnswer::Same);
+    assert_eq!(same_by_chance, same);
+    assert!(same.is_timed() && other.is_timed() && !wrong.is_timed());
+    assert_eq!(same.to_string(), "the same");
+    assert_eq!(other.to_string(), "other, as it may: the answers differ");
+    assert_eq!(wrong.to_string(), "not comparable: the answers differ");
+}
