@@ -9,6 +9,7 @@ pub mod goals;
 pub mod joins;
 pub mod long;
 pub mod one_headed;
+pub mod quotients;
 pub mod random;
 pub mod readings;
 pub mod rooms;
@@ -73,21 +74,22 @@ pub fn any_case(seed: u64) -> Case {
         0..=45 => check_case(&mut random),
         46..=51 => edge_case(&mut random),
         52..=70 => refused_run_case(&mut random),
-        71..=124 => run_case(&mut random),
-        125..=150 => weigh_case(&mut random),
-        151..=170 => finding::case(&mut random),
-        171..=198 => scene_case(&mut random),
+        71..=116 => run_case(&mut random),
+        117..=142 => weigh_case(&mut random),
+        143..=162 => finding::case(&mut random),
+        163..=198 => scene_case(&mut random),
         _ => long::case(&mut random),
     }
 }
 
 /// A run that is made to reach what random tables seldom reach: the last place of a room, rules
-/// with many heads that fire, goals of 64 facts.
+/// with many heads that fire, goals of 64 facts, divisions of every sort.
 pub fn scene_case(random: &mut Random) -> Case {
-    let mut case = match random.below(28) {
+    let mut case = match random.below(36) {
         0..=4 => rooms::case(random),
         5..=18 => joins::case(random),
-        _ => readings::case(random),
+        19..=27 => readings::case(random),
+        _ => quotients::case(random),
     };
     let outcome = plain_outcome(&case);
     case.limit = limit_near(random, case.limit, outcome);

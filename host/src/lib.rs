@@ -15,6 +15,7 @@
 //! - [`swi`]: a table and goals as a program for SWI-Prolog's CHR library.
 //! - [`bench`]: what is measured, and how engines are timed against each other.
 //! - [`cases`]: random cases, good, damaged and near every limit.
+//! - [`divisions`]: the quotients and remainders that a run works out, and the edges they reach.
 //! - [`verdict`]: everything that a call gives back for a case, and the reference's verdict.
 //! - [`stored`]: the form of stored cases, and the line that a program has to print for each.
 //! - `ffi`: the proved library through its C interface (feature `library`).
@@ -22,6 +23,7 @@
 pub mod bench;
 pub mod build;
 pub mod cases;
+pub mod divisions;
 pub mod ending;
 pub mod example;
 #[cfg(feature = "library")]

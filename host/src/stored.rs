@@ -32,6 +32,42 @@ pub fn case(case: &Case) -> Vec<u8> {
     bytes
 }
 
+/// The cases that stored bytes hold, up to the byte behind the last one; nothing if they hold
+/// something else.
+pub fn cases(mut bytes: &[u8]) -> Option<Vec<Case>> {
+    let mut found = Vec::new();
+    while *bytes != [END] {
+        found.push(next_case(&mut bytes)?);
+    }
+    Some(found)
+}
+
+/// Takes a case off the front of stored bytes.
+fn next_case(bytes: &mut &[u8]) -> Option<Case> {
+    let kind = char::from(take(bytes, 1)?[0]);
+    let mut words = [0; 5];
+    for word in &mut words {
+        *word = u32::from_le_bytes(take(bytes, 4)?.try_into().ok()?);
+    }
+    let [table, goal, weights, limit, answer_len] = words;
+    let mut part = |len: u32| Some(take(bytes, len as usize)?.to_vec());
+    Some(Case {
+        call: CALLS.into_iter().find(|call| letter(*call) == kind)?,
+        table: part(table)?,
+        goal: part(goal)?,
+        weights: part(weights)?,
+        limit,
+        answer_len: answer_len as usize,
+    })
+}
+
+/// Takes so many bytes off the front.
+fn take<'a>(bytes: &mut &'a [u8], len: usize) -> Option<&'a [u8]> {
+    let taken = bytes.get(..len)?;
+    *bytes = &bytes[len..];
+    Some(taken)
+}
+
 /// The line expected for a case.
 pub fn line(case: &Case, verdict: &Verdict) -> String {
     let mut words = vec![letter(case.call).to_string()];
@@ -44,6 +80,8 @@ pub fn line(case: &Case, verdict: &Verdict) -> String {
     }
     words.join(" ")
 }
+
+const CALLS: [Call; 4] = [Call::Check, Call::Run, Call::Weigh, Call::FindWeights];
 
 /// The letter that a case and its line begin with.
 fn letter(call: Call) -> char {

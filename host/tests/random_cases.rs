@@ -1,6 +1,6 @@
 //! Many random cases: the two engines of this package agree, and every number occurs.
 
-use std::collections::BTreeMap;
+use std::collections::{BTreeMap, BTreeSet};
 
 use nadhirukh_host::cases::random::Random;
 use nadhirukh_host::cases::{any_case, edges, long, run_case, Call, Case};
@@ -8,7 +8,7 @@ use nadhirukh_host::outcome::{numbers, PAST_NUMBERS};
 use nadhirukh_host::reference::run::{admit, run_read};
 use nadhirukh_host::reference::step::{Pruning, Step};
 use nadhirukh_host::verdict::{self, Verdict, FILL};
-use nadhirukh_host::{format, plain, reference};
+use nadhirukh_host::{divisions, format, plain, reference};
 
 const CASES: u64 = 20_000;
 
@@ -142,6 +142,21 @@ fn random_runs_reach_the_end_of_every_room_and_fire_rules_of_every_shape() {
     }
     // One to four heads with none to all of them kept, and the five others.
     assert_eq!(seen.len(), 2 + 3 + 4 + 5 + 5, "{:?}", seen);
+    assert!(seen.values().all(|count| *count >= 20), "{:?}", seen);
+}
+
+#[test]
+fn random_runs_divide_at_every_edge() {
+    let mut seen = BTreeMap::new();
+    for seed in 0..CASES {
+        for edge in divisions::reached(&any_case(seed)) {
+            *seen.entry(edge).or_insert(0) += 1;
+        }
+    }
+    assert_eq!(
+        seen.keys().cloned().collect::<BTreeSet<_>>(),
+        divisions::edges()
+    );
     assert!(seen.values().all(|count| *count >= 20), "{:?}", seen);
 }
 

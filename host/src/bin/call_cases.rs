@@ -9,9 +9,9 @@ use std::path::Path;
 use std::process::ExitCode;
 
 use nadhirukh_host::cases::random::Random;
-use nadhirukh_host::cases::{self, edges, finding, Case};
+use nadhirukh_host::cases::{self, edges, finding, quotients, Case};
 use nadhirukh_host::tools::{self, Trouble};
-use nadhirukh_host::{stored, verdict};
+use nadhirukh_host::{divisions, stored, verdict};
 
 /// A group's name, and what gives its cases.
 type Group = (&'static str, fn() -> Vec<Case>);
@@ -131,12 +131,32 @@ fn check_cases() -> Vec<Case> {
     found
 }
 
-/// Random runs, then a few of the longest table, then document 01's own run without a star.
+/// Random runs, then a few of the longest table, then document 01's own run without a star, then
+/// runs that divide.
 fn run_cases() -> Vec<Case> {
     let mut found = pick(4, RUN, cases::run_case);
     let mut random = Random::new(SEED);
     found.extend((0..3).map(|_| cases::longest_case(&mut random)));
     found.extend([42, 43].map(cases::two_for_one_case));
+    found.extend(dividing_cases(7));
+    found
+}
+
+/// Takes runs that divide at an edge which none before them reached, until all are reached.
+fn dividing_cases(row: u64) -> Vec<Case> {
+    let mut left = divisions::edges();
+    let mut found = Vec::new();
+    for at in 0.. {
+        let case = quotients::case(&mut random(row, at));
+        let reached = divisions::reached(&case);
+        if !left.is_disjoint(&reached) {
+            left.retain(|edge| !reached.contains(edge));
+            found.push(case);
+        }
+        if left.is_empty() {
+            break;
+        }
+    }
     found
 }
 
@@ -147,12 +167,17 @@ fn find_cases() -> Vec<Case> {
     found
 }
 
+/// What the case of a number in a row is made from.
+fn random(row: u64, at: u64) -> Random {
+    Random::new(SEED + (row << 32) + at)
+}
+
 /// Takes cases from a generator until every number's quota is full.
 fn pick(row: u64, quota: Quota, generate: fn(&mut Random) -> Case) -> Vec<Case> {
     let mut left = quota.to_vec();
     let mut found = Vec::new();
     for at in 0.. {
-        let case = generate(&mut Random::new(SEED + (row << 32) + at));
+        let case = generate(&mut random(row, at));
         let number = verdict::reference(&case).outcome.number;
         if let Some(wanted) = left.iter_mut().find(|wanted| wanted.0 == number) {
             if wanted.1 > 0 {
