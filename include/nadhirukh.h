@@ -25,8 +25,8 @@
 #include <stddef.h>
 #include <stdint.h>
 
-/* Rises with each change of a call that was there before. */
-#define NADHIRUKH_VERSION 1
+/* Rises with each change of a call that was there before. 2: quotients are rounded down, where 1 cut them toward zero. */
+#define NADHIRUKH_VERSION 2
 
 /* The words of a result, and how many there are. */
 #define NADHIRUKH_RESULT 6
@@ -106,8 +106,8 @@
 #define NADHIRUKH_OPERATION_SUM 1
 #define NADHIRUKH_OPERATION_DIFFERENCE 2
 #define NADHIRUKH_OPERATION_PRODUCT 3
-#define NADHIRUKH_OPERATION_QUOTIENT 4
-#define NADHIRUKH_OPERATION_REMAINDER 5
+#define NADHIRUKH_OPERATION_QUOTIENT 4  /* the greatest whole number not above the exact quotient: -4 for -7 by 2 */
+#define NADHIRUKH_OPERATION_REMAINDER 5 /* what is left by this quotient, 0 or of the divisor's sign: 1 for -7 by 2 */
 #define NADHIRUKH_COMPARATOR_EQUAL 0
 #define NADHIRUKH_COMPARATOR_UNEQUAL 1
 #define NADHIRUKH_COMPARATOR_LESS 2

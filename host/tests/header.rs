@@ -182,7 +182,9 @@ fn every_name_has_its_value() {
         let before = found.insert(definition.name.to_string(), definition.value);
         assert_eq!(before, None, "{} is defined twice", definition.name);
     }
-    assert!(found.remove("VERSION").is_some());
+    // The second engine has no version. Document 02's first request raised it to 2.
+    let version = found.remove("VERSION").expect("the header has a version");
+    assert!(version >= 2, "version {} was there before", version);
     let wanted = [
         words_of_a_result(),
         numbers(),
