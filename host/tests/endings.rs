@@ -1,7 +1,8 @@
 //! Each ending of a run, and the choices that the steps turn on.
 
 use nadhirukh_host::build::{
-    alone, constant, goal, of, table, variable, Rule, EQUAL, GREATER, LESS, QUOTIENT, SUM,
+    alone, constant, goal, of, table, variable, Rule, EQUAL, GREATER, LESS, QUOTIENT, REMAINDER,
+    SUM,
 };
 use nadhirukh_host::format::{ANSWER_LEN, MAX_LIMIT};
 use nadhirukh_host::outcome::ResultWords;
@@ -71,6 +72,42 @@ fn an_undefined_guard_counts_only_before_the_first_applicable_instance() {
     let undefined_first = goal(&[(0, &[0]), (0, &[2]), (1, &[3])]);
     assert_eq!(words(&table, &first_applies, 99)[0], 0);
     assert_eq!(words(&table, &undefined_first, 99), [3, 0, 7, 0, 3, 3]);
+}
+
+/// p(A, B) <=> A by B = 0 | true, and p(A, B) <=> q(A by B), with one of the two divisions.
+fn dividing(operation: u8) -> [Vec<u8>; 2] {
+    let (a, b) = (variable(0), variable(1));
+    let (division, zero) = (of(operation, a, b), alone(constant(0)));
+    let rule = Rule::new().remove(0, &[a, b]);
+    let in_the_guard = rule.clone().guard(division, EQUAL, zero);
+    let in_the_body = rule.add(1, &[division]);
+    [in_the_guard, in_the_body].map(|rule| table(&[2, 1], &[rule]))
+}
+
+#[test]
+fn a_division_without_a_value_ends_in_3_in_a_guard_and_in_4_in_a_body() {
+    let divisions = [
+        (QUOTIENT, i32::MIN, -1),
+        (QUOTIENT, 1, 0),
+        (REMAINDER, 1, 0),
+    ];
+    for (operation, a, b) in divisions {
+        let [in_the_guard, in_the_body] = dividing(operation);
+        let goal = goal(&[(0, &[a, b])]);
+        assert_eq!(words(&in_the_guard, &goal, 99), [3, 0, 1, 0, 1, 1]);
+        assert_eq!(words(&in_the_body, &goal, 99), [4, 0, 1, 0, 1, 1]);
+    }
+}
+
+#[test]
+fn the_lowest_number_by_minus_one_has_remainder_0() {
+    let [in_the_guard, in_the_body] = dividing(REMAINDER);
+    let goal = goal(&[(0, &[i32::MIN, -1])]);
+    assert_eq!(words(&in_the_guard, &goal, 99), [0, 0, 2, 1, 1, 0]);
+    let (words, answer) = run(&in_the_body, &goal, 99);
+    assert_eq!(words, [0, 0, 4, 1, 2, 1]);
+    // q(0), the second fact.
+    assert_eq!(answer[..10], [17, 2, 0, 0, 0, 1, 0, 0, 0, 0]);
 }
 
 #[test]

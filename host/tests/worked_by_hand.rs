@@ -1,8 +1,9 @@
-//! The runs that document 01 works out by hand, on both engines of this package.
+//! The runs that document 01 works out by hand, and the classes of document 02's No. 1, on both
+//! engines of this package.
 
 use nadhirukh_host::build::{
-    alone, constant, goal, of, table, table_a, variable, Rule, GREATER, LESS, QUOTIENT, SUM,
-    UNEQUAL,
+    alone, constant, goal, of, table, table_a, variable, Rule, GREATER, LESS, QUOTIENT, REMAINDER,
+    SUM, UNEQUAL,
 };
 use nadhirukh_host::format::{ANSWER_LEN, LONGEST_TABLE};
 use nadhirukh_host::outcome::{Outcome, ResultWords};
@@ -133,6 +134,23 @@ fn forty_two_facts_fit_and_forty_three_do_not() {
     let facts = |count: usize| goal(&vec![(0, &[][..]); count]);
     runs_to(&table, &facts(42), LIMIT, [0, 0, 336, 42, 126, 126]);
     runs_to(&table, &facts(43), LIMIT, [5, 0, 340, 43, 128, 128]);
+}
+
+/// Argument i of fact n in an answer.
+fn argument(answer: &[u8], n: usize, i: usize) -> i32 {
+    let at = 22 * n + 6 + 4 * i;
+    i32::from_le_bytes([answer[at], answer[at + 1], answer[at + 2], answer[at + 3]])
+}
+
+#[test]
+fn three_degrees_below_0_and_above_are_in_different_classes_of_five() {
+    let (t, five) = (variable(0), constant(5));
+    let class = [of(QUOTIENT, t, five), of(REMAINDER, t, five)];
+    let rule = Rule::new().remove(0, &[t]).add(1, &class);
+    let goal = goal(&[(0, &[-3]), (0, &[3]), (0, &[-5])]);
+    let answer = runs_to(&table(&[1, 2], &[rule]), &goal, LIMIT, [0, 0, 12, 3, 6, 3]);
+    let classes = [0, 1, 2].map(|n| [argument(&answer, n, 0), argument(&answer, n, 1)]);
+    assert_eq!(classes, [[-1, 2], [0, 3], [-1, 0]]);
 }
 
 #[test]
