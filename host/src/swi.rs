@@ -2,6 +2,8 @@
 //!
 //! Symbols are called s0, s1, .., variables V0, V1, .. and values that are worked out T0, T1, ..
 
+pub mod tables;
+
 use crate::ending::Ending;
 use crate::format::PLACES;
 use crate::names::Symbol;

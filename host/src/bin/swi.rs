@@ -2,7 +2,8 @@
 //! library and on the proved program *run*, which the command RUN.. starts; programs for
 //! SWI-Prolog are left in the folder.
 //!
-//! Prints a line for each example, one for the random tables and, last, `N passed, M failed`.
+//! Prints a line for each sort of random tables, one for each example and, last,
+//! `N passed, M failed`.
 
 use std::env;
 use std::error::Error;
@@ -10,24 +11,17 @@ use std::io::Write;
 use std::path::Path;
 use std::process::{Command, ExitCode, Stdio};
 
-use nadhirukh_host::cases::random::Random;
-use nadhirukh_host::cases::{one_headed, Plan};
+use nadhirukh_host::cases::Plan;
 use nadhirukh_host::ending::Ending;
 use nadhirukh_host::example::{goal_bytes, in_folder, Declared, Example, ANY_ORDER, BY_ORDER};
-use nadhirukh_host::format::ANSWER_LEN;
-use nadhirukh_host::plain;
 use nadhirukh_host::reference::state::Fact;
 use nadhirukh_host::reference::{check, goal};
+use nadhirukh_host::swi::tables::{Tables, DIVIDING, ONE_HEADED};
 use nadhirukh_host::swi::{self, Arithmetic};
 use nadhirukh_host::tools::{self, Trouble};
 
 /// How many random goals each example is run on, beside the stored ones.
 const RANDOM: u64 = 100;
-/// How many random tables there are, and goals for each.
-const TABLES: u64 = 40;
-const GOALS: usize = 25;
-/// The step limit of *run*.
-const LIMIT: u32 = 1_000_000;
 
 type Tried<T> = Result<T, Box<dyn Error>>;
 
@@ -48,7 +42,10 @@ fn compare_all() -> Result<ExitCode, Trouble> {
         Some((folder, run)) if !run.is_empty() => (Path::new(folder), run),
         _ => return Err(tools::usage("swi FOLDER RUN..")),
     };
-    let mut verdicts = vec![try_random_tables(folder, run)];
+    let mut verdicts = vec![
+        try_random_tables(&ONE_HEADED, folder, run),
+        try_random_tables(&DIVIDING, folder, run),
+    ];
     for (examples, alike) in [(ANY_ORDER, true), (BY_ORDER, false)] {
         for (name, example) in in_folder(examples)? {
             let goals = example.all_goals(RANDOM);
@@ -62,20 +59,13 @@ fn compare_all() -> Result<ExitCode, Trouble> {
     Ok(ExitCode::from(u8::from(failed > 0)))
 }
 
-/// Random tables of one-headed rules; only goals that a run ends by the rules, and not for want
-/// of steps or room, which SWI-Prolog does not know.
-fn try_random_tables(folder: &Path, run: &[String]) -> bool {
+/// Prints one line for random tables of a sort, or that of the first table which does not end alike.
+fn try_random_tables(tables: &Tables, folder: &Path, run: &[String]) -> bool {
     let mut all = Vec::new();
-    for seed in 0..TABLES {
-        let mut random = Random::new(seed);
-        let plan = one_headed::table(&mut random);
+    for (number, (plan, goals)) in tables.with_goals().enumerate() {
         let example = unnamed(&plan);
-        let goals = one_headed::goals(&mut random, &plan, GOALS);
-        let ended = goals
-            .iter()
-            .filter(|goal| ends_by_rules(&example.table, goal));
-        let goals = ended.map(|goal| read_goal(&example, goal)).collect();
-        let name = format!("one-headed-{}", seed);
+        let goals = goals.iter().map(|goal| read_goal(&example, goal)).collect();
+        let name = format!("{}-{}", tables.file, number);
         match compare(&example, goals, &folder.join(&name), run) {
             Ok(compared) if compared.iter().all(|run| run.proved == run.swi) => {
                 all.extend(compared)
@@ -83,7 +73,7 @@ fn try_random_tables(folder: &Path, run: &[String]) -> bool {
             compared => return report(&name, &example, true, compared),
         }
     }
-    let name = format!("{} random tables of one-headed rules", TABLES);
+    let name = format!("{} {}", tables.count, tables.what);
     report(&name, &Example::default(), true, Ok(all))
 }
 
@@ -98,11 +88,6 @@ fn unnamed(plan: &Plan) -> Example {
         table: plan.bytes(),
         ..Example::default()
     }
-}
-
-fn ends_by_rules(table: &[u8], goal: &[u8]) -> bool {
-    let outcome = plain::run(table, goal, LIMIT, &mut [0; ANSWER_LEN]);
-    matches!(outcome.number, 0 | 1 | 3 | 4)
 }
 
 fn read_goal(example: &Example, bytes: &[u8]) -> Vec<Fact> {

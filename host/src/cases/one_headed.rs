@@ -23,8 +23,7 @@ fn one_headed(rule: &Rule) -> bool {
     rule.kept.len() + rule.removed.len() == 1
 }
 
-/// So many goals for a table.
-pub fn goals(random: &mut Random, plan: &Plan, count: usize) -> Vec<Vec<u8>> {
-    let goal = |_| goals::goal(random, plan, plan.most_facts);
-    (0..count).map(goal).collect()
+/// A goal for a table.
+pub fn goal(random: &mut Random, plan: &Plan) -> Vec<u8> {
+    goals::goal(random, plan, plan.most_facts)
 }

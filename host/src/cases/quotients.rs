@@ -2,9 +2,9 @@
 //! the range, with and without something left, and at times such as have no quotient.
 
 use super::random::Random;
-use super::Case;
+use super::{Case, Plan};
 use crate::build::{
-    alone, constant, goal_fact, of, table, variable, Expression, Rule, QUOTIENT, REMAINDER,
+    alone, constant, goal_fact, of, variable, Expression, Rule, QUOTIENT, REMAINDER,
 };
 use crate::divisions::{candidates, PAIRS};
 use crate::format::ANSWER_LEN;
@@ -18,16 +18,35 @@ const CLASS: u8 = 1;
 /// A dividend and a divisor.
 type Pair = (i32, i32);
 
-/// Readings, at times such as have no quotient among them, and up to three rules that divide them.
+/// The most readings of a goal, and steps of a run.
+const READINGS: usize = 16;
+const STEPS: u32 = 500;
+
+/// A run of a goal on a table.
 pub fn case(random: &mut Random) -> Case {
-    let rules: Vec<Rule> = (0..random.between(1, 3)).map(|_| rule(random)).collect();
+    let table = table(random).bytes();
+    Case::run(table, goal(random), STEPS, ANSWER_LEN)
+}
+
+/// Up to three rules that divide readings. Each has one head.
+pub fn table(random: &mut Random) -> Plan {
+    Plan {
+        arities: vec![4, 2],
+        rules: (0..random.between(1, 3)).map(|_| rule(random)).collect(),
+        most_facts: READINGS,
+        most_steps: STEPS,
+    }
+}
+
+/// Readings, at times such as have no quotient among them.
+pub fn goal(random: &mut Random) -> Vec<u8> {
     let pair: fn(&mut Random) -> Pair = match random.chance(40) {
         true => any_pair,
         false => pair_with_quotient,
     };
-    let readings = random.between(4, 16);
+    let readings = random.between(4, READINGS);
     let goal: Vec<Vec<u8>> = (0..readings).map(|_| reading(random, pair)).collect();
-    Case::run(table(&[4, 2], &rules), goal.concat(), 500, ANSWER_LEN)
+    goal.concat()
 }
 
 /// One of every sort, or small numbers. The lowest number by -1 ends most runs, so it comes more
