@@ -1,5 +1,5 @@
 // Exact whole numbers of 32 bits: the operations of expressions and the comparators of guards.
-// No function here has a `requires`: each takes every input, and its contract gives the one result that the definition gives.
+// No public function here has a `requires`: each takes every input, and its contract gives the one result that the definition gives.
 ghost use mathlib.Core.Path.{_≡_};
 ghost use mathlib.Core.Bool.{cond};
 ghost use mathlib.Core.Logic.{_≢_};
@@ -66,7 +66,7 @@ fn turned(x: i32, b: i32) -> i64
     x as i64
 }
 
-// x, or where it is asked for the number that lies across from it: -1 for 0, -2 for 1, and back.
+// x, or if it is asked for the number across from it: -1 for 0, -2 for 1, and back.
 fn mirrored(x: i64, across: bool) -> i64
     ensures { λ r. ⌜ r ≡ cond across (negsuc 0 -ℤ x) x ⌝ }
 {
@@ -76,8 +76,8 @@ fn mirrored(x: i64, across: bool) -> i64
     x
 }
 
-// a by b, rounded down. Numbers that are not below 0 are divided, since there a cut is no other than rounding down: the signs are turned so
-// that the divisor is above 0, and a dividend that is then below 0 is mirrored, and so is its quotient.
+// a by b, rounded down. What is divided is never below 0, where to cut is to round down: the signs are turned so that the divisor is above 0,
+// and a dividend that is then below 0 is mirrored, and so is its quotient.
 fn floor(a: i32, b: i32) -> i64
     requires { ⌜ b ≢ pos 0 ⌝ }
     ensures { λ r. ⌜ r ≡ Numbers.floorZ a b ⌝ }
