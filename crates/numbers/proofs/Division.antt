@@ -12,11 +12,11 @@ use native.Mathlib.Omega.{arith}
 use lib.Dec.{T, leb→le, le→leb, ltb→lt, lt→ltb}
 use lib.IntN.{ℤ, pos, negsuc, negℤ, _+ℤ_, _-ℤ_, _*ℤ_, negℤ-negℤ, negℤ-+ℤ, +ℤ-comm, +ℤ-negℤ-cancel}
 use lib.Signed.{mag, ltZ, leZ, _≤ℤ_, _<ℤ_}
-use borrow.Author.Tests.{lt-ltb, ne-eqb}
+use borrow.Author.Tests.{lt-ltb}
 use Rattle.numbers.specs.declared.Value.{Value}
 use Rattle.numbers.specs.declared.Value.the-variants.{Number, Undefined}
 use Rattle.numbers.specs.Numbers.{lowest, highest, inRange, exact, equal, unlessZero, down, floorZ, modZ, quotientOf, remainderOf}
-use Rattle.numbers.specs.Laws.{InRange, exact-number}
+use Rattle.numbers.specs.Laws.{InRange, pos-ranged, negsuc-ranged, exact-number, unless-other}
 
 -- ---- what is meant
 
@@ -223,12 +223,6 @@ left-other b (negsuc r) (above h k) e = h .le
 left-other b (pos r) (below h k) e = let z = ltb→lt 0 r (subst (λ (x : ℤ). T (ltZ x (pos r))) e (h .lt)) in let w = leb→le r 0 (k .le) in omega arith
 left-other b (negsuc r) (below h k) e = subst (λ (x : ℤ). T (ltZ x (negsuc r))) e (h .lt)
 
-unless-other : (b : ℤ) (v : Value) → b ≢ pos 0 → unlessZero b v ≡ v
-unfolding unlessZero
-unless-other (pos zero) v h = absurd (h refl)
-unless-other (pos (suc b)) v h = simp (ne-eqb (suc b) 0 (λ (e : suc b ≡ 0). omega arith)) refl
-unless-other (negsuc b) v h = refl
-
 -- whatever divides is what the operations give, if it fits
 pub quotient-is : (a b q r : ℤ) → Division a b q r → quotientOf a b ≡ exact q
 unfolding quotientOf
@@ -239,12 +233,6 @@ unfolding remainderOf
 remainder-is a b q r d = unless-other b (exact (modZ a b)) (left-other b r (d .left)) ∙ ap exact (mod-is a b q r d)
 
 -- what is left always fits
-pos-ranged : (n : ℕ) → n ≤ mag highest → InRange (pos n)
-pos-ranged n h = record { low = record { le = tt }; high = record { le = le→leb n (mag highest) h } }
-
-negsuc-ranged : (n : ℕ) → n ≤ mag lowest → InRange (negsuc n)
-negsuc-ranged n h = record { low = record { le = le→leb n (mag lowest) h }; high = record { le = tt } }
-
 left-ranged : (b r : ℤ) → Left b r → InRange b → InRange r
 left-ranged (pos b) (pos r) (above h k) i = pos-ranged r (omega (arith, ltb→lt r b (k .lt), leb→le b (mag highest) (i .high .le)))
 left-ranged (negsuc b) (pos r) (above h k) i = absurd (k .lt)

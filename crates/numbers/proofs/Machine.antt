@@ -14,6 +14,7 @@ use mir.Val.{SFits, toZ, ofZ}
 use mir.Facts.{toZ-ofZ, sfits-widen, sfits-lit}
 use borrow.Author.Tests.{ltb-true, ltb-false, le-leb, lt-leb, eq-eqb, ne-eqb, eqb-true, eqb-false}
 use Rattle.numbers.specs.Numbers.{lowest, highest, inRange, exact, equal, unlessZero}
+use Rattle.numbers.specs.Laws.{fits-in-range, exact-number, unless-other}
 use Rattle.numbers.specs.declared.Value.{Value}
 use Rattle.numbers.specs.declared.Value.the-variants.{Number, Undefined}
 
@@ -32,15 +33,13 @@ unfolding exact inRange
 too-high (pos n) e = simp (lt-leb n (mag highest) (ltb-true (mag highest) n e))
 too-high (negsuc n) e = never e
 
-pub within : (x : ℤ) → ltZ x lowest ≡ false → ltZ highest x ≡ false → exact x ≡ Number x
-unfolding exact inRange
-within (pos n) p q = simp (le-leb n (mag highest) (ltb-false (mag highest) n q))
-within (negsuc n) p q = simp (le-leb n (mag lowest) (ltb-false (mag lowest) n p))
-
 -- a number that neither test refuses fits 32 bits
 pub fits-32 : (x : ℤ) → ltZ x lowest ≡ false → ltZ highest x ≡ false → SFits w32 x
 fits-32 (pos n) p q = record { sfits = omega (arith, ltb-false (mag highest) n q) }
 fits-32 (negsuc n) p q = record { sfits = omega (arith, ltb-false (mag lowest) n p) }
+
+pub within : (x : ℤ) → ltZ x lowest ≡ false → ltZ highest x ≡ false → exact x ≡ Number x
+within x p q = exact-number (fits-in-range (fits-32 x p q))
 
 -- ---- how large a result can be
 
@@ -97,7 +96,8 @@ pub wide-is : {z : ℤ} → SFits w32 z → wide z ≡ z
 wide-is {z} f = let g : SFits w64 z = sfits-widen tt f in simp toZ-ofZ
 
 -- an operation whose result fits 64 bits, on two such numbers: the machine's result fits, and is the operation's
-module _ (op : ℤ → ℤ → ℤ) (fits : (a b : ℤ) → SFits w32 a → SFits w32 b → SFits w64 (op a b)) {a b : ℤ} (fa : SFits w32 a) (fb : SFits w32 b) where
+module _ (op : ℤ → ℤ → ℤ) (fits : (a b : ℤ) → SFits w32 a → SFits w32 b → SFits w64 (op a b))
+    {a b : ℤ} (fa : SFits w32 a) (fb : SFits w32 b) where
   pub op-fits : SFits w64 (op (wide a) (wide b))
   op-fits = rw (wide-is fa, wide-is fb) (fits a b fa fb)
 
@@ -126,10 +126,9 @@ pub by-zero : (v : Value) {b : ℤ} → SFits w32 b → ofZ w32 b ≡ 0 → unle
 unfolding unlessZero
 by-zero v {b} f e = simp (sym (bits-equal b (pos 0) f (sfits-lit tt)) ∙ eq-eqb _ _ e)
 
-pub by-other : (v : Value) {b : ℤ} → SFits w32 b → (ofZ w32 b ≡ 0 → ⊥) → unlessZero b v ≡ v
-unfolding unlessZero
-by-other v {b} f e = simp (sym (bits-equal b (pos 0) f (sfits-lit tt)) ∙ ne-eqb _ _ e)
-
 -- a divisor whose bits are not 0 is not 0
 pub read-other : {b : ℤ} → SFits w32 b → (ofZ w32 b ≡ 0 → ⊥) → toZ w32 (ofZ w32 b) ≢ pos 0
 read-other {b} f h e = h (ap (ofZ w32) (sym (toZ-ofZ f) ∙ e))
+
+pub by-other : (v : Value) {b : ℤ} → SFits w32 b → (ofZ w32 b ≡ 0 → ⊥) → unlessZero b v ≡ v
+by-other v {b} f h = unless-other b v (λ (e : b ≡ pos 0). read-other f h (toZ-ofZ f ∙ e))

@@ -3,14 +3,15 @@
 -- Each goes by the cases of the definition that it is about. Assumes nothing.
 use mathlib.Core.Path.{_≡_, refl, sym, ap, subst}
 use mathlib.Core.Bool.{Bool, true, false, cond, _&&_}
-use Prim.Native.Nat.{ℕ, _<_}
+use mathlib.Core.Logic.{_≢_}
+use Prim.Native.Nat.{ℕ, zero, suc, _≤_, _<_}
 use native.Mathlib.Omega.{arith}
 use lib.Dec.{T, eqb, leb→le, le→leb}
 use lib.IntN.{ℤ, pos, negsuc}
 use lib.Signed.{mag, leZ, _≤ℤ_}
 use mir.Syntax.{w32}
 use mir.Val.{SFits}
-use borrow.Author.Tests.{le-leb, lt-leb, eq-eqb, eqb-true}
+use borrow.Author.Tests.{le-leb, lt-leb, eq-eqb, ne-eqb, eqb-true}
 use Rattle.numbers.specs.declared.Value.{Value}
 use Rattle.numbers.specs.declared.Value.the-variants.{Number, Undefined}
 use Rattle.numbers.specs.declared.Truth.the-variants.{Undefined as Unknown}
@@ -28,9 +29,15 @@ pub in-range-fits : {z : ℤ} → InRange z → SFits w32 z
 in-range-fits {z = pos n} r = record { sfits = omega (arith, leb→le n (mag highest) (r .high .le)) }
 in-range-fits {z = negsuc n} r = record { sfits = omega (arith, leb→le n (mag lowest) (r .low .le)) }
 
+pub pos-ranged : (n : ℕ) → n ≤ mag highest → InRange (pos n)
+pos-ranged n h = record { low = record { le = tt }; high = record { le = le→leb n (mag highest) h } }
+
+pub negsuc-ranged : (n : ℕ) → n ≤ mag lowest → InRange (negsuc n)
+negsuc-ranged n h = record { low = record { le = le→leb n (mag lowest) h }; high = record { le = tt } }
+
 pub fits-in-range : {z : ℤ} → SFits w32 z → InRange z
-fits-in-range {z = pos n} f = record { low = record { le = tt }; high = record { le = le→leb n (mag highest) (omega arith) } }
-fits-in-range {z = negsuc n} f = record { low = record { le = le→leb n (mag lowest) (omega arith) }; high = record { le = tt } }
+fits-in-range {z = pos n} f = pos-ranged n (omega arith)
+fits-in-range {z = negsuc n} f = negsuc-ranged n (omega arith)
 
 both : (s t : Bool) → s && t ≡ true → T s × T t
 both true true e = (tt, tt)
@@ -68,6 +75,13 @@ ranged-test false z e = ranged-undefined
 pub exact-ranged : (z : ℤ) → Ranged (exact z)
 unfolding exact
 exact-ranged z = ranged-test (inRange z) z refl
+
+-- by a divisor other than 0 a division has the value that it says
+pub unless-other : (b : ℤ) (v : Value) → b ≢ pos 0 → unlessZero b v ≡ v
+unfolding unlessZero
+unless-other (pos zero) v h = absurd (h refl)
+unless-other (pos (suc b)) v h = simp (ne-eqb (suc b) 0 (λ (e : suc b ≡ 0). omega arith)) refl
+unless-other (negsuc b) v h = refl
 
 divided-ranged : (b z : ℤ) → Ranged (unlessZero b (exact z))
 unfolding unlessZero
