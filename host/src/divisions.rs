@@ -232,7 +232,7 @@ fn divided(expression: &Expression) -> Option<(Operation, [Slot; 2])> {
 }
 
 /// Whether a rule has a quotient or a remainder.
-fn divides(rule: &Rule) -> bool {
+pub fn divides(rule: &Rule) -> bool {
     let sides = rule
         .guards
         .iter()

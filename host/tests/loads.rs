@@ -5,12 +5,12 @@ use std::collections::BTreeMap;
 use nadhirukh_host::bench::loads::{chain, cycles, Load, OldAnswer};
 use nadhirukh_host::bench::older::Standing;
 use nadhirukh_host::bench::quotients::quotients;
+use nadhirukh_host::divisions::divides;
 use nadhirukh_host::ending::Ending;
 use nadhirukh_host::format::{ANSWER_LEN, MAX_LIMIT};
 use nadhirukh_host::outcome::Outcome;
-use nadhirukh_host::reference::numbers::Operation;
 use nadhirukh_host::reference::state::Fact;
-use nadhirukh_host::reference::table::{Expression, Item, Rule, Table};
+use nadhirukh_host::reference::table::Table;
 use nadhirukh_host::reference::{self, check, goal};
 use nadhirukh_host::{names::Symbol, plain};
 
@@ -54,23 +54,6 @@ fn fact(symbol: u8, first: i32, second: i32) -> Fact {
         symbol: Symbol(symbol),
         arguments: [first, second, 0, 0],
     }
-}
-
-fn divides(rule: &Rule) -> bool {
-    let guards = rule
-        .guards
-        .iter()
-        .flat_map(|guard| [guard.left, guard.right]);
-    let arguments = rule.body.iter().flat_map(|item| match item {
-        Item::Fact { arguments, .. } => arguments.clone(),
-        Item::Fail => Vec::new(),
-    });
-    guards.chain(arguments).any(|expression| match expression {
-        Expression::Of(operation, ..) => {
-            [Operation::Quotient, Operation::Remainder].contains(&operation)
-        }
-        Expression::Alone(_) => false,
-    })
 }
 
 #[test]
