@@ -1,0 +1,1 @@
+-- What holds of reading tokens into a tree.

@@ -1,0 +1,1 @@
+// Reading tokens into a tree is specs/ and proofs/ alone: this crate has no code.

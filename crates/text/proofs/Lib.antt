@@ -1,0 +1,1 @@
+-- What holds of tokens and texts.
