@@ -1,1 +1,3 @@
--- What holds of reading tokens into a tree.
+-- What holds of reading tokens into a tree: the machine is the grammar.
+pub mod Steps
+pub mod Consumed
