@@ -1,3 +1,4 @@
 -- What holds of reading tokens into a tree: the machine is the grammar.
 pub mod Steps
 pub mod Consumed
+pub mod Turned
