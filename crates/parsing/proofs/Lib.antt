@@ -2,3 +2,5 @@
 pub mod Steps
 pub mod Consumed
 pub mod Turned
+pub mod Forward
+pub mod Complete
