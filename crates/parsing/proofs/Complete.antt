@@ -223,3 +223,225 @@ arrow-on s w o (k ∷ kept) (r ∷ removed) rest u v h =
   where
     rs : List Token
     rs = listTokens headTokens (r ∷ removed)
+
+-- ---- expressions and comparisons
+
+-- a state from which a slot begins an expression
+abbrev Wanting : Progress → Side → Type 0
+Wanting s d = (a : Term) (rest : List Token) → run s (slot a ∷ rest) ≡ run (term d a) rest
+
+wanting-wants : (d : Side) → Wanting (wants d) d
+unfolding run step edgesOf along by
+wanting-wants d a rest = refl
+
+wanting-headed : (w : TableTree) (kept removed : List HeadTree) → Wanting (headed w kept removed) (leftOf (guarded w kept removed []))
+unfolding run step edgesOf along by
+wanting-headed w kept removed a rest = refl
+
+formula-on : (s : Progress) (d : Side) → Wanting s d → (f : Formula) (rest : List Token) → Delimited rest
+    → run s (formulaTokens f ++ rest) ≡ run (formed d f) rest
+unfolding formulaTokens
+formula-on s d o (alone a) rest u =
+    o a rest ∙ along-on (term d a) (formed d (alone a)) rest u (λ t v. unfold step edgesOf in skips anOperation _ _ t (v .1))
+formula-on s d o (applied p a b) rest u = o a (operates p ∷ slot b ∷ rest) ∙ (unfold run step edgesOf along by in refl)
+
+module _ (w : TableTree) (kept removed : List HeadTree) where
+  abbrev guardsTo : List GuardTree → Guarded
+  guardsTo gs = guarded w kept removed gs
+
+  -- behind a comparison
+  abbrev compared : List GuardTree → GuardTree → Progress
+  compared gs g = formed (rightOf (guardsTo gs) (g .left) (g .comparator)) (g .right)
+
+  guard-on : (s : Progress) (gs : List GuardTree) → Wanting s (leftOf (guardsTo gs)) → (g : GuardTree) (rest : List Token) → Delimited rest
+      → run s (guardTokens g ++ rest) ≡ run (compared gs g) rest
+  unfolding guardTokens
+  guard-on s gs o g rest u =
+      ap (λ (l : List Token). run s l) (append-assoc (formulaTokens (g .left)) (compares (g .comparator) ∷ formulaTokens (g .right)) rest)
+      ∙ formula-on s (leftOf (guardsTo gs)) o (g .left) (compares (g .comparator) ∷ (formulaTokens (g .right) ++ rest)) (refl, refl, refl)
+      ∙ compares-on (formulaTokens (g .right) ++ rest)
+      ∙ formula-on (wants (rightOf (guardsTo gs) (g .left) (g .comparator))) (rightOf (guardsTo gs) (g .left) (g .comparator))
+      (wanting-wants (rightOf (guardsTo gs) (g .left) (g .comparator))) (g .right) rest u
+    where
+      compares-on : (l : List Token) → run (formed (leftOf (guardsTo gs)) (g .left)) (compares (g .comparator) ∷ l)
+          ≡ run (wants (rightOf (guardsTo gs) (g .left) (g .comparator))) l
+      compares-on l = unfold run step edgesOf along by in refl
+
+  guard-comma : (gs : List GuardTree) (g : GuardTree) (rest : List Token)
+      → run (compared gs g) (mark comma ∷ rest) ≡ run (wants (leftOf (guardsTo (g ∷ gs)))) rest
+  unfolding run step edgesOf along by
+  guard-comma gs g rest = refl
+
+  guard-bar : (gs : List GuardTree) (g : GuardTree) (rest : List Token) → run (compared gs g) (mark bar ∷ rest) ≡ run (body (guardsTo (g ∷ gs))) rest
+  unfolding run step edgesOf along by
+  guard-bar gs g rest = refl
+
+  all-fit : (gs : List GuardTree) → every (λ (g : GuardTree). Unit {0}) gs
+  all-fit [] = tt
+  all-fit (g ∷ gs) = (tt, all-fit gs)
+
+  comparisons-on : (g : GuardTree) (gs : List GuardTree) (rest : List Token)
+      → run (headed w kept removed) (listTokens guardTokens (g ∷ gs) ++ (mark bar ∷ rest)) ≡ run (body (guardsTo (reverse (g ∷ gs)))) rest
+  comparisons-on g gs rest =
+      list-on guardTokens (λ (x : GuardTree). x) (λ x. Unit {0}) (λ xs. wants (leftOf (guardsTo xs))) compared (λ xs. body (guardsTo xs))
+      (mark bar) (refl, refl, refl) (length gs) (λ xs x l f. guard-comma xs x l)
+      (λ xs x l f d. guard-on (wants (leftOf (guardsTo xs))) xs (wanting-wants (leftOf (guardsTo xs))) x l d) guard-bar
+      (headed w kept removed) g gs rest (all-fit gs) (omega arith)
+      (λ l d. guard-on (headed w kept removed) [] (wanting-headed w kept removed) g l d)
+      ∙ ap (λ (l : List GuardTree). run (body (guardsTo (reverse l))) rest) (map-same (g ∷ gs))
+
+-- ---- bodies
+
+-- a state from which an item begins
+pub record ItemFrom (s : Progress) (g : Guarded) (is : List ItemTree) : Type 0 where
+  pub named : (k : ℕ) (rest : List Token) → run s (symbol k ∷ rest) ≡ run (itemNamed g is k) rest
+  pub failed : (rest : List Token) → run s (mark failWord ∷ rest) ≡ run (itemDone g is fail) rest
+
+-- a state from which a body begins
+pub record BodyFrom (s : Progress) (g : Guarded) : Type 0 where
+  pub item : ItemFrom s g []
+  pub empty : (rest : List Token) → run s (mark trueWord ∷ mark stop ∷ rest) ≡ run (ruled (tableOf g [])) rest
+
+from-next : (g : Guarded) (is : List ItemTree) → ItemFrom (itemNext g is) g is
+unfolding run step edgesOf along by
+from-next g is = record { named = λ k rest. refl; failed = λ rest. refl }
+
+from-body : (g : Guarded) → BodyFrom (body g) g
+unfolding run step edgesOf along by
+from-body g = record { item = record { named = λ k rest. refl; failed = λ rest. refl }; empty = λ rest. refl }
+
+from-headed : (w : TableTree) (kept removed : List HeadTree) → BodyFrom (headed w kept removed) (guarded w kept removed [])
+unfolding run step edgesOf along by
+from-headed w kept removed = record { item = record { named = λ k rest. refl; failed = λ rest. refl }; empty = λ rest. refl }
+
+module _ (g : Guarded) (is : List ItemTree) where
+  module _ (k : ℕ) where
+    argument-comma : (es : List Formula) (f : Formula) (rest : List Token) → length es < 3
+        → run (formed (argumentOf g is k es) f) (mark comma ∷ rest) ≡ run (wants (argumentOf g is k (f ∷ es))) rest
+    unfolding run step edgesOf along by
+    argument-comma es f rest h = rw (is-less (length es) 3 h)
+
+    argument-end : (es : List Formula) (f : Formula) (rest : List Token)
+        → run (formed (argumentOf g is k es) f) (mark closes ∷ rest) ≡ run (itemDone g is (fact k (f ∷ es))) rest
+    unfolding run step edgesOf along by
+    argument-end es f rest =
+        ap (λ (o : Option Progress). andThen o (λ s. run s rest)) (only-skips (ltb (length es) 3) (the comma) _ _ (mark closes) refl)
+
+    formulas-fit : (es : List Formula) → every (λ (f : Formula). Unit {0}) es
+    formulas-fit [] = tt
+    formulas-fit (f ∷ es) = (tt, formulas-fit es)
+
+    arguments-on : (es : List Formula) → length es ≤ 4 → (rest : List Token) → Delimited rest
+        → run (itemNamed g is k) (bracketTokens formulaTokens es ++ rest) ≡ run (itemDone g is (fact k (reverse es))) rest
+    unfolding bracketTokens
+    arguments-on [] h rest d =
+        along-on (itemNamed g is k) (itemDone g is (fact k [])) rest d (λ t v. unfold step edgesOf in skips (the opens) _ _ t (v .2))
+    arguments-on (f ∷ es) h rest d =
+        opened ((listTokens formulaTokens (f ∷ es) ++ (mark closes ∷ [])) ++ rest)
+        ∙ ap (λ (l : List Token). run (wants (argumentOf g is k [])) l) (append-assoc (listTokens formulaTokens (f ∷ es)) (mark closes ∷ []) rest)
+        ∙ list-on formulaTokens (λ (x : Formula). x) (λ x. Unit {0}) (λ xs. wants (argumentOf g is k xs)) (λ xs x. formed (argumentOf g is k xs) x)
+        (λ xs. itemDone g is (fact k xs)) (mark closes) (refl, refl, refl) 3 argument-comma part argument-end
+        (wants (argumentOf g is k [])) f es rest (formulas-fit es) (omega arith) (λ l d′. part [] f l tt d′)
+        ∙ ap (λ (l : List Formula). run (itemDone g is (fact k (reverse l))) rest) (map-same (f ∷ es))
+      where
+        opened : (l : List Token) → run (itemNamed g is k) (mark opens ∷ l) ≡ run (wants (argumentOf g is k [])) l
+        opened l = unfold run step edgesOf along by in refl
+
+        part : (xs : List Formula) (x : Formula) (l : List Token) → Unit {0} → Delimited l
+            → run (wants (argumentOf g is k xs)) (formulaTokens x ++ l) ≡ run (formed (argumentOf g is k xs) x) l
+        part xs x l u d′ = formula-on (wants (argumentOf g is k xs)) (argumentOf g is k xs) (wanting-wants (argumentOf g is k xs)) x l d′
+
+  item-on : (s : Progress) → ItemFrom s g is → (i : ItemTree) (rest : List Token) → ItemShaped i → Delimited rest
+      → run s (itemTokens i ++ rest) ≡ run (itemDone g is (itemForward i)) rest
+  unfolding itemTokens
+  item-on s o (fact k es) rest u d = o .named k (bracketTokens formulaTokens es ++ rest) ∙ arguments-on k es u rest d
+  item-on s o fail rest u d = o .failed rest
+
+item-comma : (g : Guarded) (is : List ItemTree) (i : ItemTree) (rest : List Token)
+    → run (itemDone g is i) (mark comma ∷ rest) ≡ run (itemNext g (i ∷ is)) rest
+unfolding run step edgesOf along by
+item-comma g is i rest = refl
+
+item-stop : (g : Guarded) (is : List ItemTree) (i : ItemTree) (rest : List Token)
+    → run (itemDone g is i) (mark stop ∷ rest) ≡ run (ruled (tableOf g (i ∷ is))) rest
+unfolding run step edgesOf along by
+item-stop g is i rest = refl
+
+body-on : (s : Progress) (g : Guarded) → BodyFrom s g → (is : List ItemTree) (rest : List Token) → every ItemShaped is
+    → run s (bodyTokens is ++ (mark stop ∷ rest)) ≡ run (ruled (tableOf g (reverse (map itemForward is)))) rest
+unfolding bodyTokens
+body-on s g o [] rest u = o .empty rest
+body-on s g o (i ∷ is) rest u =
+    list-on itemTokens itemForward ItemShaped (itemNext g) (itemDone g) (λ xs. ruled (tableOf g xs)) (mark stop) (refl, refl, refl) (length is)
+    (λ xs x l f. item-comma g xs x l) (λ xs x l f d. item-on g xs (itemNext g xs) (from-next g xs) x l f d) (item-stop g)
+    s i is rest (u .1) (omega arith) (λ l d. item-on g [] s (o .item) i l (u .0) d)
+
+-- ---- rules
+
+rest-on : (w : TableTree) (kept removed : List HeadTree) (gs : List GuardTree) (is : List ItemTree) (rest : List Token) → every ItemShaped is
+    → run (headed w kept removed) (guardsTokens gs ++ (bodyTokens is ++ (mark stop ∷ rest)))
+    ≡ run (ruled (tableOf (guarded w kept removed (reverse gs)) (reverse (map itemForward is)))) rest
+unfolding guardsTokens
+rest-on w kept removed [] is rest u = body-on (headed w kept removed) (guarded w kept removed []) (from-headed w kept removed) is rest u
+rest-on w kept removed (g ∷ gs) is rest u =
+    ap (λ (l : List Token). run (headed w kept removed) l)
+    (append-assoc (listTokens guardTokens (g ∷ gs)) (mark bar ∷ []) (bodyTokens is ++ (mark stop ∷ rest)))
+    ∙ comparisons-on w kept removed g gs (bodyTokens is ++ (mark stop ∷ rest))
+    ∙ body-on (body (guarded w kept removed (reverse (g ∷ gs)))) (guarded w kept removed (reverse (g ∷ gs)))
+    (from-body (guarded w kept removed (reverse (g ∷ gs)))) is rest u
+
+abbrev ruleMore : TableTree → RuleTree → TableTree
+ruleMore w r = tableWith (w .arities) (ruleForward r ∷ w .rules)
+
+rule-on : (s : Progress) (w : TableTree) → Opening s (first w) [] → (r : RuleTree) (rest : List Token) → RuleShaped r
+    → run s (ruleTokens r ++ rest) ≡ run (ruled (ruleMore w r)) rest
+unfolding ruleTokens
+rule-on s w o r rest u =
+    ap (λ (l : List Token). run s l) (simp append-assoc)
+    ∙ arrow-on s w o (r .kept) (r .removed) (guardsTokens (r .guards) ++ (bodyTokens (r .items) ++ (mark stop ∷ rest))) (u .kept) (u .removed) (u .someHead)
+    ∙ rest-on w (turnedHeads (r .kept)) (turnedHeads (r .removed)) (r .guards) (r .items) rest (u .items)
+
+rules-on : (rs : List RuleTree) (w : TableTree) → every RuleShaped rs
+    → run (ruled w) (eachTokens ruleTokens rs) ≡ some (ruled (tableWith (w .arities) (reverseAux (map ruleForward rs) (w .rules))))
+unfolding eachTokens
+rules-on [] w u = unfold run in refl
+rules-on (r ∷ rs) w u = rule-on (ruled w) w (opening-ruled w) r (eachTokens ruleTokens rs) (u .0) ∙ rules-on rs (ruleMore w r) (u .1)
+
+-- ---- texts
+
+declarations-on : (later ns : List ℕ) (rest : List Token) → every (λ (a : ℕ). a ≤ 4) later
+    → run (declared ns) (declarationsTokens (length ns) later ++ rest) ≡ run (declared (reverseAux later ns)) rest
+unfolding declarationsTokens declarationTokens
+declarations-on [] ns rest u = refl
+declarations-on (a ∷ later) ns rest u =
+    one (declarationsTokens (suc (length ns)) later ++ rest) ∙ declarations-on later (a ∷ ns) rest (u .1)
+  where
+    one : (l : List Token) → run (declared ns) (symbol (length ns) ∷ operates quotient ∷ slot (constant (pos a)) ∷ mark stop ∷ l) ≡ run (declared (a ∷ ns)) l
+    one l = unfold run step edgesOf along by in
+        rw (is-true (eqb (length ns) (length ns)) (eqb-refl (length ns)), is-true (leb a 4) (le→leb a 4 (u .0)))
+
+-- where a run comes to a whole text
+pub record Reaches (s : Progress) (ts : List Token) (w : TableTree) : Type 0 where
+  pub state : Progress
+  pub runs : run s ts ≡ some state
+  pub whole : whole state ≡ some w
+
+complete-with : (ns : List ℕ) (rs : List RuleTree) → Shaped (tableWith ns rs) → Reaches (declared []) (textTokens (tableWith ns rs)) (tableWith ns rs)
+unfolding textTokens eachTokens whole forward
+complete-with ns [] u = record {
+  state = declared (reverse ns);
+  runs = declarations-on ns [] [] (u .arities) ∙ (unfold run in refl);
+  whole = ap some (forward-twice (tableWith ns []));
+}
+complete-with ns (r ∷ rs) u = record {
+  state = ruled (tableWith (reverse ns) (reverse (map ruleForward (r ∷ rs))));
+  runs =
+      declarations-on ns [] (ruleTokens r ++ eachTokens ruleTokens rs) (u .arities)
+      ∙ rule-on (declared (reverse ns)) (tableWith (reverse ns) []) (opening-declared (reverse ns)) r (eachTokens ruleTokens rs) (u .rules .0)
+      ∙ rules-on rs (ruleMore (tableWith (reverse ns) []) r) (u .rules .1);
+  whole = ap some (forward-twice (tableWith ns (r ∷ rs)));
+}
+
+-- the text of a tree with the counts of the grammar is read, and is whole, and the tree is that tree
+pub complete : (w : TableTree) → Shaped w → Reaches (declared []) (textTokens w) w
+complete w u = complete-with (w .arities) (w .rules) u
