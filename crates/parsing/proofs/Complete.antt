@@ -21,7 +21,7 @@ use Rattle.parsing.specs.Progress.{headNamed, headWants, headSlot, headD
 use Rattle.parsing.specs.Progress.{itemNamed, itemDone, itemNext, tableWith, headWith, guarded, withGuard, tableOf}
 use Rattle.parsing.specs.Edges.{Edge, edge, only, by, along, edgesOf, step, behindHead, behindFormula, behindItem}
 use Rattle.parsing.specs.Parsed.{headForward, itemForward, ruleForward, forward, whole}
-use Rattle.parsing.proofs.Steps.{andThen, run}
+use Rattle.parsing.proofs.Steps.{skips, only-skips, andThen, run}
 use Rattle.parsing.proofs.Consumed.{HeadsFit}
 use Rattle.parsing.proofs.Turned.{turned-some, map-same}
 use Rattle.parsing.proofs.Forward.{forward-twice}
@@ -35,11 +35,6 @@ Delimits t = (slashSaid t ≡ none) × (operationSaid t ≡ none) × (markSaid o
 abbrev Delimited : List Token → Type 0
 Delimited [] = ⊥
 Delimited (t ∷ ts) = Delimits t
-
--- an edge of another class is passed over
-skips : (c : Class) (to : Said c → Progress) (es : List Edge) (t : Token) → said c t ≡ none → along (edge c to ∷ es) t ≡ along es t
-unfolding along by
-skips c to es t e = rw e
 
 along-on : (s s′ : Progress) (ts : List Token) → Delimited ts → ((t : Token) → Delimits t → step s t ≡ step s′ t) → run s ts ≡ run s′ ts
 unfolding run
@@ -99,11 +94,6 @@ opening-next g hs k t rest e = refl
 opening-ruled : (w : TableTree) → Opening (ruled w) (first w) []
 unfolding run step edgesOf along by
 opening-ruled w k t rest e = refl
-
-only-skips : (b : Bool) (c : Class) (to : Said c → Progress) (es : List Edge) (t : Token) → said c t ≡ none
-    → along (only b (edge c to ∷ []) ++ es) t ≡ along es t
-only-skips true c to es t e = skips c to es t e
-only-skips false c to es t e = refl
 
 opening-declared : (ns : List ℕ) → Opening (declared ns) (first (tableWith ns [])) []
 unfolding run step edgesOf along by

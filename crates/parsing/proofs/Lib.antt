@@ -4,3 +4,6 @@ pub mod Consumed
 pub mod Turned
 pub mod Forward
 pub mod Complete
+pub mod Sound
+pub mod Finish
+pub mod Exactly

@@ -17,7 +17,7 @@ use Rattle.text.specs.Token.{trueWord, failWord}
 use Rattle.parsing.specs.Classes.{Class, aSymbol, aSlot, aComparator, anOperation, slash, anArity, the, Said, saying, said, markNumber, markSaid}
 use Rattle.parsing.specs.Classes.{slashSaid, aritySaid, arityOf}
 use Rattle.parsing.specs.Progress.{Progress}
-use Rattle.parsing.specs.Edges.{Edge, edge, by, along, step}
+use Rattle.parsing.specs.Edges.{Edge, edge, only, by, along, step}
 
 -- ---- a test that holds
 
@@ -135,6 +135,17 @@ module _ (P : Token → Progress → Type 0) where
       go : (o : Option (Said c)) → OptionIs (Told c t) o → OptionIs (P t) (along es t) → OptionIs (P t) (by c to (along es t) o)
       go none v later = later
       go (some x) v later = rw (v .0) (u .0 x (v .1))
+
+-- an edge of another class is passed over
+pub skips : (c : Class) (to : Said c → Progress) (es : List Edge) (t : Token) → said c t ≡ none → along (edge c to ∷ es) t ≡ along es t
+unfolding along by
+skips c to es t e = rw e
+
+-- also where it stands only under a test
+pub only-skips : (b : Bool) (c : Class) (to : Said c → Progress) (es : List Edge) (t : Token) → said c t ≡ none
+    → along (only b (edge c to ∷ []) ++ es) t ≡ along es t
+only-skips true c to es t e = skips c to es t e
+only-skips false c to es t e = refl
 
 -- ---- runs
 
