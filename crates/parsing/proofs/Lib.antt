@@ -7,3 +7,4 @@ pub mod Complete
 pub mod Sound
 pub mod Finish
 pub mod Exactly
+pub mod Ranges
