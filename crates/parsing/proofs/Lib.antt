@@ -8,3 +8,4 @@ pub mod Sound
 pub mod Finish
 pub mod Exactly
 pub mod Ranges
+pub mod Tables
