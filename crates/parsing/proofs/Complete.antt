@@ -19,9 +19,9 @@ use Rattle.parsing.specs.Classes.{Class, Said, said, slash, anOperation,
 use Rattle.parsing.specs.Progress.{Group, first, second, Guarded, Side, leftOf, rightOf, argumentOf, Progress, declared, named, slashed, sized, ruled}
 use Rattle.parsing.specs.Progress.{headNamed, headWants, headSlot, headDone, headNext, headed, wants, term, operated, formed, body, emptied}
 use Rattle.parsing.specs.Progress.{itemNamed, itemDone, itemNext, tableWith, headWith, guarded, withGuard, tableOf}
-use Rattle.parsing.specs.Edges.{Edge, edge, only, by, along, edgesOf, step, behindHead, behindFormula, behindItem}
+use Rattle.parsing.specs.Edges.{Edge, edge, only, room, inTurn, by, along, edgesOf, step, behindHead, behindFormula, behindItem}
 use Rattle.parsing.specs.Parsed.{headForward, itemForward, ruleForward, forward, whole}
-use Rattle.parsing.proofs.Steps.{skips, only-skips, andThen, run}
+use Rattle.parsing.proofs.Steps.{skips, only-skips, only-takes, andThen, run}
 use Rattle.parsing.proofs.Consumed.{HeadsFit}
 use Rattle.parsing.proofs.Turned.{turned-some, map-same}
 use Rattle.parsing.proofs.Forward.{forward-twice}
@@ -98,14 +98,16 @@ opening-ruled w k t rest e = refl
 opening-declared : (ns : List ℕ) → Opening (declared ns) (first (tableWith ns [])) []
 unfolding run step edgesOf along by
 opening-declared ns k t rest e =
-    ap (λ (o : Option Progress). andThen o (λ s. run s rest)) (only-skips (eqb k (length ns)) slash (λ x. slashed ns) _ t e)
+    ap (λ (o : Option Progress). andThen o (λ s. run s rest)) (only-skips (inTurn ns k) slash _ _ t e)
 
 module _ (g : Group) (hs : List HeadTree) where
   module _ (k : ℕ) where
     slot-comma : (ts : List Term) (t : Term) (rest : List Token) → length ts < 3
         → run (headSlot g hs k t ts) (mark comma ∷ rest) ≡ run (headWants g hs k (t ∷ ts)) rest
     unfolding run step edgesOf along by
-    slot-comma ts t rest h = rw (is-less (length ts) 3 h)
+    slot-comma ts t rest h =
+        ap (λ (o : Option Progress). andThen o (λ s. run s rest))
+        (only-takes (room ts) (the comma) _ _ (mark comma) tt (is-less (length ts) _ (omega arith)) refl)
 
     slot-part : (ts : List Term) (t : Term) (rest : List Token) → Unit {0} → Delimited rest
         → run (headWants g hs k ts) (termTokens t ++ rest) ≡ run (headSlot g hs k t ts) rest
@@ -116,7 +118,7 @@ module _ (g : Group) (hs : List HeadTree) where
         → run (headSlot g hs k t ts) (mark closes ∷ rest) ≡ run (headDone g hs (headWith k (t ∷ ts))) rest
     unfolding run step edgesOf along by
     slot-end ts t rest =
-        ap (λ (o : Option Progress). andThen o (λ s. run s rest)) (only-skips (ltb (length ts) 3) (the comma) _ _ (mark closes) refl)
+        ap (λ (o : Option Progress). andThen o (λ s. run s rest)) (only-skips (room ts) (the comma) _ _ (mark closes) refl)
 
     terms-fit : (ts : List Term) → every (λ (t : Term). Unit {0}) ts
     terms-fit [] = tt
@@ -309,13 +311,15 @@ module _ (g : Guarded) (is : List ItemTree) where
     argument-comma : (es : List Formula) (f : Formula) (rest : List Token) → length es < 3
         → run (formed (argumentOf g is k es) f) (mark comma ∷ rest) ≡ run (wants (argumentOf g is k (f ∷ es))) rest
     unfolding run step edgesOf along by
-    argument-comma es f rest h = rw (is-less (length es) 3 h)
+    argument-comma es f rest h =
+        ap (λ (o : Option Progress). andThen o (λ s. run s rest))
+        (only-takes (room es) (the comma) _ _ (mark comma) tt (is-less (length es) _ (omega arith)) refl)
 
     argument-end : (es : List Formula) (f : Formula) (rest : List Token)
         → run (formed (argumentOf g is k es) f) (mark closes ∷ rest) ≡ run (itemDone g is (fact k (f ∷ es))) rest
     unfolding run step edgesOf along by
     argument-end es f rest =
-        ap (λ (o : Option Progress). andThen o (λ s. run s rest)) (only-skips (ltb (length es) 3) (the comma) _ _ (mark closes) refl)
+        ap (λ (o : Option Progress). andThen o (λ s. run s rest)) (only-skips (room es) (the comma) _ _ (mark closes) refl)
 
     formulas-fit : (es : List Formula) → every (λ (f : Formula). Unit {0}) es
     formulas-fit [] = tt

@@ -18,7 +18,7 @@ use Rattle.text.specs.Text.{ItemShaped, RuleShaped, Shaped}
 use Rattle.parsing.specs.Progress.{Group, first, second, Guarded, Side, leftOf, rightOf, argumentOf, Progress, declared, named, slashed, sized, ruled}
 use Rattle.parsing.specs.Progress.{headNamed, headWants, headSlot, headDone, headNext, headed, wants, term, operated, formed, body, emptied}
 use Rattle.parsing.specs.Progress.{itemNamed, itemDone, itemNext, tableWith, headWith, guarded, withGuard, ruleWith, tableOf}
-use Rattle.parsing.specs.Edges.{Edge, edge, only, edgesOf, step, behindGroup, behindHead, behindSymbol, behindFormula, itemEdges, bodyEdges, behindItem}
+use Rattle.parsing.specs.Edges.{Edge, edge, only, room, inTurn, edgesOf, step, behindGroup, behindHead, behindSymbol, behindFormula, itemEdges, bodyEdges, behindItem}
 use Rattle.parsing.proofs.Steps.{Keeps, along-keeps, so, test-equal, andThen, run}
 
 -- ---- lists, before `rest`
@@ -181,12 +181,10 @@ Leads before t s = (consumed s ≡ t ∷ before) × Fit s
 abbrev AllLead : List Token → List Edge → Type 0
 AllLead before es = every (Keeps (Leads before)) es
 
-lead-append : (before : List Token) (es fs : List Edge) → AllLead before es → AllLead before fs → AllLead before (es ++ fs)
-lead-append before es fs u v = every-append (Keeps (Leads before)) es fs u v
-
-lead-only : (before : List Token) (b : Bool) (es : List Edge) → (b ≡ true → AllLead before es) → AllLead before (only b es)
-lead-only before true es u = u refl
-lead-only before false es u = tt
+-- edges, some only where a test holds
+lead-test : (before : List Token) (b : Bool) (es fs : List Edge) → (b ≡ true → AllLead before es) → AllLead before fs → AllLead before (only b es ++ fs)
+lead-test before true es fs u v = every-append (Keeps (Leads before)) es fs (u refl) v
+lead-test before false es fs u v = v
 
 test-less : (m n : ℕ) → ltb m n ≡ true → m < n
 test-less m n e = ltb→lt m n (so (ltb m n) e)
@@ -217,9 +215,8 @@ formula-leads (rightOf g l c) f u = ((λ x y. (refl, fit)), ((λ x y. (refl, fit
     fit : GuardedFit (withGuard g l c f)
     fit = record { table = u .table; kept = u .kept; removed = u .removed; someHead = u .someHead }
 formula-leads (argumentOf g is k es) f u =
-    lead-append (formulaRead f (sideRead (argumentOf g is k es))) (only (ltb (length es) 3) _) _
-    (lead-only (formulaRead f (sideRead (argumentOf g is k es))) (ltb (length es) 3) _
-    (λ e. ((λ x y. (refl, (u .0, test-less (length es) 3 e))), tt)))
+    lead-test (formulaRead f (sideRead (argumentOf g is k es))) (room es) _ _
+    (λ e. ((λ x y. (refl, (u .0, omega (arith, test-less (length es) _ e)))), tt))
     ((λ x y. (refl, (u .0 .0, (omega arith, u .0 .1)))), tt)
 
 item-leads : (g : Guarded) (is : List ItemTree) → ItemsFit g is → AllLead (itemsRead g is) (itemEdges g is)
@@ -242,9 +239,8 @@ pub edges-lead : (s : Progress) → Fit s → AllLead (consumed s) (edgesOf s)
 unfolding edgesOf
 edges-lead (declared ns) u = ((λ x y. (refl, u)), tt)
 edges-lead (named ns k) u =
-    lead-append (symbol k ∷ declarationsRead ns) (only (eqb k (length ns)) _) _
-    (lead-only (symbol k ∷ declarationsRead ns) (eqb k (length ns)) _
-    (λ e. ((λ x y. (ap (λ (n : ℕ). operates quotient ∷ symbol n ∷ declarationsRead ns) (sym (test-equal k (length ns) e)), u)), tt)))
+    lead-test (symbol k ∷ declarationsRead ns) (inTurn ns k) _ _
+    (λ e. ((λ x y. (ap (λ (n : ℕ). operates quotient ∷ symbol n ∷ declarationsRead ns) (sym (test-equal k (length ns) e)), u)), tt))
     (symbol-leads (first (tableWith ns [])) [] k (record { arities = u; rules = tt }) tt)
 edges-lead (slashed ns) u = ((λ x y. (refl, ((y, u), omega arith))), tt)
 edges-lead (sized []) u = absurd (omega arith)
@@ -253,8 +249,7 @@ edges-lead (ruled w) u = ((λ x y. (refl, (u, tt))), tt)
 edges-lead (headNamed g hs k) u = symbol-leads g hs k (u .0) (u .1)
 edges-lead (headWants g hs k ts) u = ((λ x y. (refl, u)), tt)
 edges-lead (headSlot g hs k t ts) u =
-    lead-append (consumed (headSlot g hs k t ts)) (only (ltb (length ts) 3) _) _
-    (lead-only (consumed (headSlot g hs k t ts)) (ltb (length ts) 3) _ (λ e. ((λ x y. (refl, (u .0, test-less (length ts) 3 e))), tt)))
+    lead-test (consumed (headSlot g hs k t ts)) (room ts) _ _ (λ e. ((λ x y. (refl, (u .0, omega (arith, test-less (length ts) _ e)))), tt))
     ((λ x y. (refl, (u .0 .0, (omega arith, u .0 .1)))), tt)
 edges-lead (headDone g hs h) u = head-leads g hs h (u .0) (u .1)
 edges-lead (headNext g hs) u = ((λ x y. (refl, u)), tt)

@@ -16,7 +16,7 @@ use Rattle.parsing.specs.Classes.{the, slash}
 use Rattle.parsing.specs.Progress.{Group, first, second, Guarded, Side, leftOf, rightOf, argumentOf, Progress, declared, named, slashed, sized, ruled}
 use Rattle.parsing.specs.Progress.{headNamed, headWants, headSlot, headDone, headNext, headed, wants, term, operated, formed, body, emptied}
 use Rattle.parsing.specs.Progress.{itemNamed, itemDone, itemNext, tableWith, headWith, guarded, withGuard, tableOf}
-use Rattle.parsing.specs.Edges.{edgesOf, step, along, by}
+use Rattle.parsing.specs.Edges.{room, inTurn, edgesOf, step, along, by}
 use Rattle.parsing.specs.Parsed.{forward, whole}
 use Rattle.parsing.proofs.Steps.{only-skips, andThen, run}
 use Rattle.parsing.proofs.Complete.{Reaches}
@@ -79,7 +79,7 @@ finish-formed (rightOf g l c) f =
     go-on (formed (rightOf g l c) f) (body (withGuard g l c f)) (mark bar) tt (unfold step edgesOf along by in refl) (finish-body (withGuard g l c f))
 finish-formed (argumentOf g is k es) f =
     go-on (formed (argumentOf g is k es) f) (itemDone g is (fact k (f ∷ es))) (mark closes) tt
-    (unfold step edgesOf along by in only-skips (ltb (length es) 3) (the comma) _ _ (mark closes) refl) (finish-item g is (fact k (f ∷ es)))
+    (unfold step edgesOf along by in only-skips (room es) (the comma) _ _ (mark closes) refl) (finish-item g is (fact k (f ∷ es)))
 
 finish-operated : (d : Side) (o : Operation) (a : Term) → Finish (operated d o a)
 finish-operated d o a =
@@ -106,7 +106,7 @@ finish-head (second w k ks) hs h =
 finish-slot : (g : Group) (hs : List HeadTree) (k : ℕ) (t : Term) (ts : List Term) → Finish (headSlot g hs k t ts)
 finish-slot g hs k t ts =
     go-on (headSlot g hs k t ts) (headDone g hs (headWith k (t ∷ ts))) (mark closes) tt
-    (unfold step edgesOf along by in only-skips (ltb (length ts) 3) (the comma) _ _ (mark closes) refl) (finish-head g hs (headWith k (t ∷ ts)))
+    (unfold step edgesOf along by in only-skips (room ts) (the comma) _ _ (mark closes) refl) (finish-head g hs (headWith k (t ∷ ts)))
 
 finish-slots : (g : Group) (hs : List HeadTree) (k : ℕ) (ts : List Term) → Finish (headWants g hs k ts)
 finish-slots g hs k ts =
@@ -123,7 +123,7 @@ pub finish : (s : Progress) → Finish s
 finish (declared ns) = here (declared ns) (forward (tableWith ns [])) (unfold whole in refl)
 finish (named ns k) =
     go-on (named ns k) (headWants (first (tableWith ns [])) [] k []) (mark opens) tt
-    (unfold step edgesOf along by in only-skips (eqb k (length ns)) slash _ _ (mark opens) refl) (finish-slots (first (tableWith ns [])) [] k [])
+    (unfold step edgesOf along by in only-skips (inTurn ns k) slash _ _ (mark opens) refl) (finish-slots (first (tableWith ns [])) [] k [])
 finish (slashed ns) =
     go-on (slashed ns) (sized (0 ∷ ns)) (slot zeroSlot) zero-good (unfold step edgesOf along by in refl)
     (go-on (sized (0 ∷ ns)) (declared (0 ∷ ns)) (mark stop) tt (unfold step edgesOf along by in refl)

@@ -10,7 +10,7 @@ use lib.Dec.{leb, eqb, T, leb→le, eqb→eq}
 use lib.IntN.{ℤ, pos, negsuc}
 use lib.ListN.{getD}
 use Rattle.model.proofs.Every.{every}
-use Rattle.model.proofs.Lists.{OptionIs, either}
+use Rattle.model.proofs.Lists.{OptionIs, either, never}
 use Rattle.grammar.specs.Tree.{constant, variable, Operation, sum, difference, product, quotient, remainder}
 use Rattle.text.specs.Token.{Token, symbol, slot, compares, operates, mark, Mark, backslash, simplifies, propagates, bar, opens, closes, comma, stop}
 use Rattle.text.specs.Token.{trueWord, failWord}
@@ -146,6 +146,13 @@ pub only-skips : (b : Bool) (c : Class) (to : Said c → Progress) (es : List Ed
     → along (only b (edge c to ∷ []) ++ es) t ≡ along es t
 only-skips true c to es t e = skips c to es t e
 only-skips false c to es t e = refl
+
+-- and is taken where the test holds
+pub only-takes : (b : Bool) (c : Class) (to : Said c → Progress) (es : List Edge) (t : Token) (x : Said c) → b ≡ true → said c t ≡ some x
+    → along (only b (edge c to ∷ []) ++ es) t ≡ some (to x)
+unfolding along by
+only-takes true c to es t x e f = rw f
+only-takes false c to es t x e f = never (sym e)
 
 -- ---- runs
 

@@ -23,6 +23,14 @@ on m s = edge (the m) (λ x. s)
 abbrev pub only : Bool → List Edge → List Edge
 only b es = cond b es []
 
+-- "at most four arguments": one more may follow an argument with less than three before it
+abbrev pub room : {A : Type 0} → List A → Bool
+room before = ltb (length before) 3
+
+-- "k is the number of declarations before it"
+abbrev pub inTurn : List ℕ → ℕ → Bool
+inTurn ns k = eqb k (length ns)
+
 -- ---- heads
 
 -- behind the head h: "," and a head, "\" and the removed heads, "<=>", "==>"
@@ -47,7 +55,7 @@ abbrev pub behindFormula : Side → Formula → List Edge
 behindFormula (leftOf g) f = edge aComparator (λ c. wants (rightOf g f c)) ∷ []
 behindFormula (rightOf g l c) f = on comma (wants (leftOf (withGuard g l c f))) ∷ on bar (body (withGuard g l c f)) ∷ []
 behindFormula (argumentOf g is k es) f =
-    only (ltb (length es) 3) (on comma (wants (argumentOf g is k (f ∷ es))) ∷ []) ++ (on closes (itemDone g is (fact k (f ∷ es))) ∷ [])
+    only (room es) (on comma (wants (argumentOf g is k (f ∷ es))) ∷ []) ++ (on closes (itemDone g is (fact k (f ∷ es))) ∷ [])
 
 -- ---- bodies
 
@@ -64,14 +72,14 @@ behindItem g is i = on comma (itemNext g (i ∷ is)) ∷ on stop (ruled (tableOf
 
 unfoldable pub edgesOf : Progress → List Edge
 edgesOf (declared ns) = edge aSymbol (named ns) ∷ []
-edgesOf (named ns k) = only (eqb k (length ns)) (edge slash (λ x. slashed ns) ∷ []) ++ behindSymbol (first (tableWith ns [])) [] k
+edgesOf (named ns k) = only (inTurn ns k) (edge slash (λ x. slashed ns) ∷ []) ++ behindSymbol (first (tableWith ns [])) [] k
 edgesOf (slashed ns) = edge anArity (λ a. sized (a ∷ ns)) ∷ []
 edgesOf (sized ns) = on stop (declared ns) ∷ []
 edgesOf (ruled w) = edge aSymbol (headNamed (first w) []) ∷ []
 edgesOf (headNamed g hs k) = behindSymbol g hs k
 edgesOf (headWants g hs k ts) = edge aSlot (λ t. headSlot g hs k t ts) ∷ []
 edgesOf (headSlot g hs k t ts) =
-    only (ltb (length ts) 3) (on comma (headWants g hs k (t ∷ ts)) ∷ []) ++ (on closes (headDone g hs (headWith k (t ∷ ts))) ∷ [])
+    only (room ts) (on comma (headWants g hs k (t ∷ ts)) ∷ []) ++ (on closes (headDone g hs (headWith k (t ∷ ts))) ∷ [])
 edgesOf (headDone g hs h) = behindHead g hs h
 edgesOf (headNext g hs) = edge aSymbol (headNamed g hs) ∷ []
 edgesOf (headed w kept removed) = edge aSlot (term (leftOf (guarded w kept removed []))) ∷ bodyEdges (guarded w kept removed [])
