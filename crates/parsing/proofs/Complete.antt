@@ -1,25 +1,25 @@
 -- The machine reads the text of every tree that has the counts of the grammar, and comes to that tree: part by part, whatever tokens follow, where those
 -- begin with one that belongs to no part before it.
-use Prim.Native.Nat.{ℕ, zero, suc, _+_, _≤_, _<_}
+use Prim.Native.Nat.{ℕ, suc, _+_, _≤_, _<_}
 use native.Mathlib.Omega.{arith}
-use mathlib.Core.Path.{_≡_, refl, sym, ap, _∙_}
-use mathlib.Core.Bool.{Bool, true, false, cond}
+use mathlib.Core.Path.{_≡_, refl, ap, _∙_}
+use mathlib.Core.Bool.{Bool, true, false}
 use mathlib.Core.Option.{Option, none, some}
-use mathlib.Core.List.{List, [], _∷_, _++_, map, reverse, reverseAux, append-assoc, append-nil}
+use mathlib.Core.List.{List, [], _∷_, _++_, map, reverse, reverseAux, append-assoc}
 use lib.Dec.{T, leb, ltb, eqb, lt→ltb, le→leb, eqb-refl}
 use lib.IntN.{pos}
 use lib.ListN.{length}
 use Rattle.model.proofs.Every.{every}
-use Rattle.grammar.specs.Tree.{Term, constant, quotient, Formula, alone, applied, Comparator, HeadTree, GuardTree, ItemTree, fact, fail, RuleTree, TableTree}
+use Rattle.grammar.specs.Tree.{Term, constant, quotient, Formula, alone, applied, HeadTree, GuardTree, ItemTree, fact, fail, RuleTree, TableTree}
 use Rattle.text.specs.Token.{Token, symbol, slot, compares, operates, mark, Mark, backslash, simplifies, propagates, bar, opens, closes, comma, stop}
 use Rattle.text.specs.Token.{trueWord, failWord}
 use Rattle.text.specs.Text.{moreTokens, listTokens, bracketTokens, eachTokens, termTokens, formulaTokens, headTokens, guardTokens, itemTokens, headsTokens}
 use Rattle.text.specs.Text.{guardsTokens, bodyTokens, ruleTokens, declarationTokens, declarationsTokens, textTokens, ItemShaped, RuleShaped, Shaped}
-use Rattle.parsing.specs.Classes.{Class, Said, said, slash, anOperation, the, slashSaid, operationSaid, markSaid}
-use Rattle.parsing.specs.Progress.{Group, first, second, Guarded, Side, leftOf, rightOf, argumentOf, Progress, declared, named, slashed, sized, ruled}
-use Rattle.parsing.specs.Progress.{headNamed, headWants, headSlot, headDone, headNext, headed, wants, term, operated, formed, body, emptied}
-use Rattle.parsing.specs.Progress.{itemNamed, itemDone, itemNext, tableWith, headWith, guarded, withGuard, tableOf}
-use Rattle.parsing.specs.Edges.{Edge, edge, only, room, inTurn, by, along, edgesOf, step, behindHead, behindFormula, behindItem}
+use Rattle.parsing.specs.Classes.{slash, anOperation, the, slashSaid, operationSaid, markSaid}
+use Rattle.parsing.specs.Progress.{Group, first, second, Guarded, Side, leftOf, rightOf, argumentOf, Progress, declared, named, ruled}
+use Rattle.parsing.specs.Progress.{headNamed, headWants, headSlot, headDone, headNext, headed, wants, term, formed, body}
+use Rattle.parsing.specs.Progress.{itemNamed, itemDone, itemNext, tableWith, headWith, guarded, tableOf}
+use Rattle.parsing.specs.Edges.{room, inTurn, by, along, edgesOf, step}
 use Rattle.parsing.specs.Parsed.{headForward, itemForward, ruleForward, forward, whole}
 use Rattle.parsing.proofs.Steps.{skips, only-skips, only-takes, andThen, run}
 use Rattle.parsing.proofs.Consumed.{HeadsFit}

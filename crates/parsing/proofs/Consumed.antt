@@ -1,24 +1,24 @@
 -- The tokens that were read to come to a state, the last one first; and the counts of the grammar, of the parts read so far. Both go along with every
 -- edge: the tokens by one more, most often by computation alone.
-use Prim.Native.Nat.{ℕ, zero, suc, _+_, _≤_, _<_}
+use Prim.Native.Nat.{ℕ, _+_, _≤_, _<_}
 use native.Mathlib.Omega.{arith}
 use mathlib.Core.Path.{_≡_, refl, sym, ap}
-use mathlib.Core.Bool.{Bool, true, false, cond}
+use mathlib.Core.Bool.{Bool, true, false}
 use mathlib.Core.Option.{Option, none, some}
 use mathlib.Core.List.{List, [], _∷_, _++_, reverseAux}
-use lib.Dec.{ltb, eqb, ltb→lt}
+use lib.Dec.{ltb, ltb→lt}
 use lib.IntN.{pos}
 use lib.ListN.{length}
 use Rattle.model.proofs.Every.{every, every-append}
 use Rattle.model.proofs.Lists.{OptionIs}
-use Rattle.grammar.specs.Tree.{Term, constant, Operation, quotient, Formula, alone, applied, HeadTree, GuardTree, ItemTree, fact, fail, RuleTree, TableTree}
-use Rattle.text.specs.Token.{Token, symbol, slot, compares, operates, mark, Mark, backslash, simplifies, propagates, bar, opens, closes, comma, stop}
+use Rattle.grammar.specs.Tree.{Term, constant, quotient, Formula, alone, applied, HeadTree, GuardTree, ItemTree, fact, fail, RuleTree, TableTree}
+use Rattle.text.specs.Token.{Token, symbol, slot, compares, operates, mark, backslash, simplifies, propagates, bar, opens, closes, comma, stop}
 use Rattle.text.specs.Token.{trueWord, failWord}
-use Rattle.text.specs.Text.{ItemShaped, RuleShaped, Shaped}
+use Rattle.text.specs.Text.{ItemShaped, Shaped}
 use Rattle.parsing.specs.Progress.{Group, first, second, Guarded, Side, leftOf, rightOf, argumentOf, Progress, declared, named, slashed, sized, ruled}
 use Rattle.parsing.specs.Progress.{headNamed, headWants, headSlot, headDone, headNext, headed, wants, term, operated, formed, body, emptied}
-use Rattle.parsing.specs.Progress.{itemNamed, itemDone, itemNext, tableWith, headWith, guarded, withGuard, ruleWith, tableOf}
-use Rattle.parsing.specs.Edges.{Edge, edge, only, room, inTurn, edgesOf, step, behindGroup, behindHead, behindSymbol, behindFormula, itemEdges, bodyEdges, behindItem}
+use Rattle.parsing.specs.Progress.{itemNamed, itemDone, itemNext, tableWith, headWith, guarded, withGuard, tableOf}
+use Rattle.parsing.specs.Edges.{Edge, only, room, inTurn, edgesOf, step, behindGroup, behindHead, behindSymbol, behindFormula, itemEdges, bodyEdges, behindItem}
 use Rattle.parsing.proofs.Steps.{Keeps, along-keeps, so, test-equal, andThen, run}
 
 -- ---- lists, before `rest`

@@ -9,7 +9,7 @@ use mathlib.Core.List.{List, [], _∷_, _++_, append-assoc, append-nil}
 use Rattle.grammar.specs.Tree.{TableTree}
 use Rattle.text.specs.Token.{Token}
 use Rattle.text.specs.Tokens.{Lexed, end, noToken, next, tokensIn, AllTokens}
-use Rattle.text.specs.Text.{textTokens, Text, Begins}
+use Rattle.text.specs.Text.{Text, Begins}
 use Rattle.parsing.specs.Progress.{Progress, declared}
 use Rattle.parsing.specs.Edges.{step}
 use Rattle.parsing.specs.Parsed.{whole, Parsed, tree, strange, wrong, unfinished, ended, wrongFrom, goOn, parsedFrom, parsed}
@@ -90,9 +90,9 @@ never-run ts e rest w x =
     apart (run (declared []) (ts ++ rest)) (r .state) stuck (r .runs)
 
 -- some tokens begin a text exactly if the machine reads them
-pub record Read (ts : List Token) : Type 0 where
-  pub state : Progress
-  pub runs : run (declared []) ts ≡ some state
+record Read (ts : List Token) : Type 0 where
+  state : Progress
+  runs : run (declared []) ts ≡ some state
 
 run-begins : (ts : List Token) → Begins ts → Read ts
 run-begins ts b = go (run (declared []) ts) refl
@@ -119,18 +119,18 @@ run-last s s′ ts t e = run-append s ts (t ∷ []) ∙ ap (λ (o : Option Progr
 
 -- ---- what `parsed` answers, by runs
 
-pub record Refused (s : Progress) (l : Lexed) (p : ℕ) : Type 0 where
-  pub before : List Token
-  pub token : Token
-  pub stands : StandsAt l before p token
-  pub state : Progress
-  pub runs : run s before ≡ some state
-  pub refuses : step state token ≡ none
+record Refused (s : Progress) (l : Lexed) (p : ℕ) : Type 0 where
+  before : List Token
+  token : Token
+  stands : StandsAt l before p token
+  state : Progress
+  runs : run s before ≡ some state
+  refuses : step state token ≡ none
 
-pub record Stopped (s : Progress) (ts : List Token) : Type 0 where
-  pub state : Progress
-  pub runs : run s ts ≡ some state
-  pub whole : whole state ≡ none
+record Stopped (s : Progress) (ts : List Token) : Type 0 where
+  state : Progress
+  runs : run s ts ≡ some state
+  whole : whole state ≡ none
 
 abbrev Answered : Progress → Lexed → Parsed → Type 0
 Answered s l (tree w) = AllTokens l × Reaches s (tokensIn l) w

@@ -1,14 +1,12 @@
 -- From every state a text can be gone on with to its end: a few more tokens are enough, the same for all states of a kind.
-use Prim.Native.Nat.{ℕ, _≤_}
+use Prim.Native.Nat.{ℕ}
 use native.Mathlib.Omega.{arith}
 use mathlib.Core.Path.{_≡_, refl, ap, _∙_}
-use mathlib.Core.Option.{Option, none, some}
-use mathlib.Core.List.{List, [], _∷_, _++_}
-use lib.Dec.{ltb, eqb}
+use mathlib.Core.Option.{Option, some}
+use mathlib.Core.List.{List, [], _∷_}
 use lib.IntN.{pos}
-use lib.ListN.{length}
 use Rattle.model.proofs.Every.{every}
-use Rattle.grammar.specs.Tree.{Term, constant, Operation, sum, Formula, alone, applied, Comparator, equal, HeadTree, ItemTree, fact, fail, TableTree}
+use Rattle.grammar.specs.Tree.{Term, constant, Operation, sum, Formula, alone, applied, equal, HeadTree, ItemTree, fact, fail, TableTree}
 use Rattle.numbers.specs.Laws.{pos-ranged}
 use Rattle.grammar.specs.WellFormed.{TermGood}
 use Rattle.text.specs.Token.{Token, symbol, slot, compares, operates, mark, simplifies, bar, opens, closes, comma, stop, trueWord, failWord, TokenGood}

@@ -1,11 +1,10 @@
 -- A tree turned round twice is the tree itself, and a tree turned round has the counts of the grammar where the tree has them.
-use Prim.Native.Nat.{ℕ, _+_, _≤_}
-use native.Mathlib.Omega.{arith}
-use mathlib.Core.Path.{_≡_, refl, sym, ap, ap₂, _∙_}
+use Prim.Native.Nat.{ℕ, _≤_}
+use mathlib.Core.Path.{_≡_, refl, ap, ap₂, _∙_}
 use mathlib.Core.List.{List, [], _∷_, map, reverse, reverseAux, reverse-reverse}
 use lib.ListN.{length, length-reverse, length-map}
 use Rattle.model.proofs.Every.{every, every-map, every-weaken}
-use Rattle.grammar.specs.Tree.{Term, Formula, HeadTree, ItemTree, fact, fail, RuleTree, TableTree}
+use Rattle.grammar.specs.Tree.{Term, HeadTree, ItemTree, fact, fail, RuleTree, TableTree}
 use Rattle.text.specs.Text.{ItemShaped, RuleShaped, Shaped}
 use Rattle.parsing.specs.Progress.{headWith, tableWith}
 use Rattle.parsing.specs.Parsed.{headForward, itemForward, ruleForward, forward}

@@ -1,13 +1,13 @@
 -- The tree of a text whose tokens have a spelling: its symbols, terms and expressions are in range, and it has at most 32 declarations, since the last
 -- one's symbol is in range. Each part's tokens stand among the text's.
-use Prim.Native.Nat.{ℕ, zero, suc, _+_, _≤_, _<_}
+use Prim.Native.Nat.{ℕ, suc, _+_, _≤_}
 use native.Mathlib.Omega.{arith}
 use mathlib.Core.List.{List, [], _∷_, _++_}
 use lib.ListN.{length}
 use Rattle.model.proofs.Every.{every, every-left, every-right}
 use Rattle.grammar.specs.Tree.{Term, Formula, alone, applied, HeadTree, GuardTree, ItemTree, fact, fail, RuleTree, TableTree}
 use Rattle.grammar.specs.WellFormed.{TermGood, FormulaGood}
-use Rattle.text.specs.Token.{Token, symbol, slot, compares, operates, mark, backslash, simplifies, propagates, bar, opens, closes, comma, stop, TokenGood}
+use Rattle.text.specs.Token.{Token, symbol, compares, mark, backslash, simplifies, propagates, bar, closes, stop, TokenGood}
 use Rattle.text.specs.Text.{moreTokens, listTokens, bracketTokens, eachTokens, termTokens, formulaTokens, headTokens, guardTokens, itemTokens, headsTokens}
 use Rattle.text.specs.Text.{guardsTokens, bodyTokens, ruleTokens, declarationTokens, declarationsTokens, textTokens}
 

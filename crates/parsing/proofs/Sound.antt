@@ -1,8 +1,7 @@
 -- Where a run comes to a whole text, the tokens are the text of its tree, with the counts of the grammar: they are what was read (Consumed), turned round
 -- (Turned).
-use mathlib.Core.Path.{_≡_, refl, sym, ap, _∙_, subst}
-use mathlib.Core.Option.{Option, none, some}
-use mathlib.Core.List.{List, [], _∷_, reverse, reverse-reverse}
+use mathlib.Core.Path.{_≡_, sym, ap, _∙_, subst}
+use mathlib.Core.List.{List, [], reverse, reverse-reverse}
 use Rattle.model.proofs.Lists.{OptionIs}
 use Rattle.grammar.specs.Tree.{TableTree}
 use Rattle.text.specs.Token.{Token}
@@ -10,7 +9,6 @@ use Rattle.text.specs.Text.{Shaped, Text}
 use Rattle.parsing.specs.Progress.{Progress, declared, named, slashed, sized, ruled, headNamed, headWants, headSlot, headDone, headNext, headed}
 use Rattle.parsing.specs.Progress.{wants, term, operated, formed, body, emptied, itemNamed, itemDone, itemNext, tableWith}
 use Rattle.parsing.specs.Parsed.{forward, whole}
-use Rattle.parsing.proofs.Steps.{run}
 use Rattle.parsing.proofs.Consumed.{consumed, tableRead, Fit, Came, run-came}
 use Rattle.parsing.proofs.Turned.{turns-table}
 use Rattle.parsing.proofs.Forward.{shaped-forward}

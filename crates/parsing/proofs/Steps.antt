@@ -1,21 +1,21 @@
 -- What a token of a class says is what the class's token for it says, and the other way round. So what every edge of a list keeps, a step along the list
 -- keeps; and a run is one step after the other.
-use Prim.Native.Nat.{ℕ, zero, suc, _≤_}
+use Prim.Native.Nat.{ℕ, _≤_}
 use native.Mathlib.Omega.{arith}
 use mathlib.Core.Path.{_≡_, refl, sym, ap, _∙_}
-use mathlib.Core.Bool.{Bool, true, false, cond}
+use mathlib.Core.Bool.{Bool, true, false}
 use mathlib.Core.Option.{Option, none, some}
 use mathlib.Core.List.{List, [], _∷_, _++_}
 use lib.Dec.{leb, eqb, T, leb→le, eqb→eq}
-use lib.IntN.{ℤ, pos, negsuc}
+use lib.IntN.{pos, negsuc}
 use lib.ListN.{getD}
 use Rattle.model.proofs.Every.{every}
 use Rattle.model.proofs.Lists.{OptionIs, either, never}
-use Rattle.grammar.specs.Tree.{constant, variable, Operation, sum, difference, product, quotient, remainder}
+use Rattle.grammar.specs.Tree.{constant, variable, sum, difference, product, quotient, remainder}
 use Rattle.text.specs.Token.{Token, symbol, slot, compares, operates, mark, Mark, backslash, simplifies, propagates, bar, opens, closes, comma, stop}
 use Rattle.text.specs.Token.{trueWord, failWord}
 use Rattle.parsing.specs.Classes.{Class, aSymbol, aSlot, aComparator, anOperation, slash, anArity, the, Said, saying, said, markNumber, markSaid}
-use Rattle.parsing.specs.Classes.{slashSaid, aritySaid, arityOf}
+use Rattle.parsing.specs.Classes.{slashSaid, aritySaid}
 use Rattle.parsing.specs.Progress.{Progress}
 use Rattle.parsing.specs.Edges.{Edge, edge, only, by, along, step}
 

@@ -1,11 +1,11 @@
 -- The table of a text is refused with 19, 20 or 22 alone, or is good. Its records have known kinds and their kinds' lengths, stand in order, in each rule
 -- behind a head, up to the end record, which is last: so 16, 17, 18, 21 and 23 never come, whatever the records hold.
-use Prim.Native.Nat.{ℕ, zero, suc, _+_, _*_, _≤_, _<_}
+use Prim.Native.Nat.{ℕ, zero, suc, _+_, _≤_, _<_}
 use native.Mathlib.Omega.{arith}
-use mathlib.Core.Path.{_≡_, refl, sym, ap, _∙_, subst}
-use mathlib.Core.Bool.{Bool, true, false, cond}
+use mathlib.Core.Path.{_≡_, refl, ap, _∙_}
+use mathlib.Core.Bool.{false}
 use mathlib.Core.List.{List, [], _∷_, _++_, List·Memᴰ, List·Memᴰ·head, List·Memᴰ·tail}
-use lib.Dec.{ltb, leb, eqb}
+use lib.Dec.{eqb}
 use lib.ListN.{length, getD, length-append}
 use borrow.Author.Tests.{lt-leb, le-ltb, ne-eqb}
 use Rattle.model.specs.declared.Kind.{Kind}
@@ -28,7 +28,7 @@ use Rattle.grammar.specs.Encode.{eachBytes, symbolBytes, headBytes, guardBytes,
 use Rattle.grammar.proofs.Same.{same-first, same-self}
 use Rattle.grammar.proofs.Parts.{head-long, guard-long, fact-long}
 use Rattle.grammar.proofs.Reading.{At, at-left, at-right, at-rest}
-use Rattle.text.specs.Tokens.{Lexed, tokensIn}
+use Rattle.text.specs.Tokens.{Lexed}
 use Rattle.text.specs.Text.{RuleShaped, Shaped}
 use Rattle.parsing.specs.Parsed.{tree, parsed}
 use Rattle.parsing.proofs.Exactly.{text-exactly}

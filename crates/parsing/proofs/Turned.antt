@@ -1,18 +1,15 @@
 -- What was read, turned round, is the text of the tree turned round: part by part, before whatever tokens are turned already.
-use Prim.Native.Nat.{ℕ, zero, suc, _+_, _≤_}
+use Prim.Native.Nat.{ℕ}
 use mathlib.Core.Path.{_≡_, refl, sym, ap, _∙_}
 use mathlib.Core.List.{List, [], _∷_, _++_, map, reverse, reverseAux, append-assoc, append-nil}
-use lib.ListN.{length, length-reverse, length-map}
-use Rattle.model.proofs.Every.{every}
-use Rattle.grammar.specs.Tree.{Term, Formula, alone, applied, HeadTree, GuardTree, ItemTree, fact, fail, RuleTree, TableTree}
-use Rattle.text.specs.Token.{Token, symbol, slot, compares, operates, mark, backslash, simplifies, propagates, bar, opens, closes, comma, stop}
-use Rattle.text.specs.Token.{trueWord, failWord}
+use lib.ListN.{length}
+use Rattle.grammar.specs.Tree.{Term, Formula, alone, applied, HeadTree, GuardTree, ItemTree, fact, fail, TableTree}
+use Rattle.text.specs.Token.{Token, symbol, compares, mark, backslash, simplifies, propagates, bar, opens, closes, comma, stop}
 use Rattle.text.specs.Text.{moreTokens, listTokens, bracketTokens, eachTokens, termTokens, formulaTokens, headTokens, guardTokens, itemTokens, headsTokens}
-use Rattle.text.specs.Text.{guardsTokens, bodyTokens, ruleTokens, declarationTokens, declarationsTokens, textTokens, ItemShaped, RuleShaped, Shaped}
-use Rattle.parsing.specs.Progress.{headWith, tableWith}
+use Rattle.text.specs.Text.{guardsTokens, bodyTokens, ruleTokens, declarationTokens, declarationsTokens, textTokens}
 use Rattle.parsing.specs.Parsed.{headForward, itemForward, ruleForward, forward}
 use Rattle.parsing.proofs.Consumed.{moreRead, listRead, bracketRead, eachRead, termRead, formulaRead, headRead, guardRead, itemRead, headsRead}
-use Rattle.parsing.proofs.Consumed.{guardsRead, bodyRead, ruleRead, declarationsRead, tableRead, Few, HeadsFit}
+use Rattle.parsing.proofs.Consumed.{guardsRead, bodyRead, ruleRead, declarationsRead, tableRead}
 
 -- ---- lists
 
