@@ -4,7 +4,7 @@ use Prim.Native.Nat.{ℕ, suc, _+_, _≤_, _<_}
 use native.Mathlib.Omega.{arith}
 use mathlib.Core.Path.{_≡_, refl, ap, _∙_}
 use mathlib.Core.Bool.{Bool, true, false}
-use mathlib.Core.Option.{Option, none, some}
+use mathlib.Core.Option.{none, some}
 use mathlib.Core.List.{List, [], _∷_, _++_, map, reverse, reverseAux, append-assoc}
 use lib.Dec.{T, leb, ltb, eqb, lt→ltb, le→leb, eqb-refl}
 use lib.IntN.{pos}
@@ -21,7 +21,7 @@ use Rattle.parsing.specs.Progress.{headNamed, headWants, headSlot, headD
 use Rattle.parsing.specs.Progress.{itemNamed, itemDone, itemNext, tableWith, headWith, guarded, tableOf}
 use Rattle.parsing.specs.Edges.{room, inTurn, by, along, edgesOf, step}
 use Rattle.parsing.specs.Parsed.{headForward, itemForward, ruleForward, forward, whole}
-use Rattle.parsing.proofs.Steps.{skips, only-skips, only-takes, andThen, run}
+use Rattle.parsing.proofs.Steps.{skips, only-skips, only-takes, run, run-by}
 use Rattle.parsing.proofs.Consumed.{HeadsFit}
 use Rattle.parsing.proofs.Turned.{turned-some, map-same}
 use Rattle.parsing.proofs.Forward.{forward-twice}
@@ -39,7 +39,7 @@ Delimited (t ∷ ts) = Delimits t
 along-on : (s s′ : Progress) (ts : List Token) → Delimited ts → ((t : Token) → Delimits t → step s t ≡ step s′ t) → run s ts ≡ run s′ ts
 unfolding run
 along-on s s′ [] d same = absurd d
-along-on s s′ (t ∷ ts) d same = ap (λ (o : Option Progress). andThen o (λ s″. run s″ ts)) (same t d)
+along-on s s′ (t ∷ ts) d same = run-by s t ts (step s′ t) (same t d)
 
 is-true : (b : Bool) → T b → b ≡ true
 is-true true u = refl
@@ -49,6 +49,11 @@ is-less : (m n : ℕ) → m < n → ltb m n ≡ true
 is-less m n h = is-true (ltb m n) (lt→ltb m n h)
 
 -- ---- lists of parts
+
+-- where nothing is asked of a part
+each-fits : {A : Type 0} (xs : List A) → every (λ (x : A). Unit {0}) xs
+each-fits [] = tt
+each-fits (x ∷ xs) = (tt, each-fits xs)
 
 -- a machine reads parts: `next xs` behind the comma, `done xs x` behind the part x, at most so many commas
 module _ {A : Type 0} (tokens : A → List Token) (fw : A → A) (Fits : A → Type 0) (next : List A → Progress) (done : List A → A → Progress)
@@ -98,7 +103,7 @@ opening-ruled w k t rest e = refl
 opening-declared : (ns : List ℕ) → Opening (declared ns) (first (tableWith ns [])) []
 unfolding run step edgesOf along by
 opening-declared ns k t rest e =
-    ap (λ (o : Option Progress). andThen o (λ s. run s rest)) (only-skips (inTurn ns k) slash _ _ t e)
+    run-by (named ns k) t rest _ (only-skips (inTurn ns k) slash _ _ t e)
 
 module _ (g : Group) (hs : List HeadTree) where
   module _ (k : ℕ) where
@@ -106,7 +111,7 @@ module _ (g : Group) (hs : List HeadTree) where
         → run (headSlot g hs k t ts) (mark comma ∷ rest) ≡ run (headWants g hs k (t ∷ ts)) rest
     unfolding run step edgesOf along by
     slot-comma ts t rest h =
-        ap (λ (o : Option Progress). andThen o (λ s. run s rest))
+        run-by (headSlot g hs k t ts) (mark comma) rest (some _)
         (only-takes (room ts) (the comma) _ _ (mark comma) tt (is-less (length ts) _ (omega arith)) refl)
 
     slot-part : (ts : List Term) (t : Term) (rest : List Token) → Unit {0} → Delimited rest
@@ -118,24 +123,21 @@ module _ (g : Group) (hs : List HeadTree) where
         → run (headSlot g hs k t ts) (mark closes ∷ rest) ≡ run (headDone g hs (headWith k (t ∷ ts))) rest
     unfolding run step edgesOf along by
     slot-end ts t rest =
-        ap (λ (o : Option Progress). andThen o (λ s. run s rest)) (only-skips (room ts) (the comma) _ _ (mark closes) refl)
-
-    terms-fit : (ts : List Term) → every (λ (t : Term). Unit {0}) ts
-    terms-fit [] = tt
-    terms-fit (t ∷ ts) = (tt, terms-fit ts)
+        run-by (headSlot g hs k t ts) (mark closes) rest (some _) (only-skips (room ts) (the comma) _ _ (mark closes) refl)
 
     terms-on : (s : Progress) → Opening s g hs → (ts : List Term) → length ts ≤ 4 → (rest : List Token) → Delimited rest
         → run s (symbol k ∷ (bracketTokens termTokens ts ++ rest)) ≡ run (headDone g hs (headWith k (reverse ts))) rest
     unfolding bracketTokens run
     terms-on s o [] h [] d = absurd d
     terms-on s o [] h (t ∷ rest) d =
-        o k t rest (d .0) ∙ along-on (headNamed g hs k) (headDone g hs (headWith k [])) (t ∷ rest) d (λ t′ d′. unfold step edgesOf in skips (the opens) _ _ t′ (d′ .2))
+        o k t rest (d .0)
+        ∙ along-on (headNamed g hs k) (headDone g hs (headWith k [])) (t ∷ rest) d (λ t′ d′. unfold step edgesOf in skips (the opens) _ _ t′ (d′ .2))
     terms-on s o (t ∷ ts) h rest d =
         o k (mark opens) ((listTokens termTokens (t ∷ ts) ++ (mark closes ∷ [])) ++ rest) refl
         ∙ opened ((listTokens termTokens (t ∷ ts) ++ (mark closes ∷ [])) ++ rest)
         ∙ ap (λ (l : List Token). run (headWants g hs k []) l) (append-assoc (listTokens termTokens (t ∷ ts)) (mark closes ∷ []) rest)
         ∙ list-on termTokens (λ (x : Term). x) (λ x. Unit {0}) (headWants g hs k) (λ xs x. headSlot g hs k x xs) (λ xs. headDone g hs (headWith k xs))
-        (mark closes) (refl, refl, refl) 3 slot-comma slot-part slot-end (headWants g hs k []) t ts rest (terms-fit ts) (omega arith)
+        (mark closes) (refl, refl, refl) 3 slot-comma slot-part slot-end (headWants g hs k []) t ts rest (each-fits ts) (omega arith)
         (λ l d′. slot-part [] t l tt d′)
         ∙ ap (λ (l : List Term). run (headDone g hs (headWith k (reverse l))) rest) (map-same (t ∷ ts))
       where
@@ -268,17 +270,13 @@ module _ (w : TableTree) (kept removed : List HeadTree) where
   unfolding run step edgesOf along by
   guard-bar gs g rest = refl
 
-  all-fit : (gs : List GuardTree) → every (λ (g : GuardTree). Unit {0}) gs
-  all-fit [] = tt
-  all-fit (g ∷ gs) = (tt, all-fit gs)
-
   comparisons-on : (g : GuardTree) (gs : List GuardTree) (rest : List Token)
       → run (headed w kept removed) (listTokens guardTokens (g ∷ gs) ++ (mark bar ∷ rest)) ≡ run (body (guardsTo (reverse (g ∷ gs)))) rest
   comparisons-on g gs rest =
       list-on guardTokens (λ (x : GuardTree). x) (λ x. Unit {0}) (λ xs. wants (leftOf (guardsTo xs))) compared (λ xs. body (guardsTo xs))
       (mark bar) (refl, refl, refl) (length gs) (λ xs x l f. guard-comma xs x l)
       (λ xs x l f d. guard-on (wants (leftOf (guardsTo xs))) xs (wanting-wants (leftOf (guardsTo xs))) x l d) guard-bar
-      (headed w kept removed) g gs rest (all-fit gs) (omega arith)
+      (headed w kept removed) g gs rest (each-fits gs) (omega arith)
       (λ l d. guard-on (headed w kept removed) [] (wanting-headed w kept removed) g l d)
       ∙ ap (λ (l : List GuardTree). run (body (guardsTo (reverse l))) rest) (map-same (g ∷ gs))
 
@@ -312,18 +310,14 @@ module _ (g : Guarded) (is : List ItemTree) where
         → run (formed (argumentOf g is k es) f) (mark comma ∷ rest) ≡ run (wants (argumentOf g is k (f ∷ es))) rest
     unfolding run step edgesOf along by
     argument-comma es f rest h =
-        ap (λ (o : Option Progress). andThen o (λ s. run s rest))
+        run-by (formed (argumentOf g is k es) f) (mark comma) rest (some _)
         (only-takes (room es) (the comma) _ _ (mark comma) tt (is-less (length es) _ (omega arith)) refl)
 
     argument-end : (es : List Formula) (f : Formula) (rest : List Token)
         → run (formed (argumentOf g is k es) f) (mark closes ∷ rest) ≡ run (itemDone g is (fact k (f ∷ es))) rest
     unfolding run step edgesOf along by
     argument-end es f rest =
-        ap (λ (o : Option Progress). andThen o (λ s. run s rest)) (only-skips (room es) (the comma) _ _ (mark closes) refl)
-
-    formulas-fit : (es : List Formula) → every (λ (f : Formula). Unit {0}) es
-    formulas-fit [] = tt
-    formulas-fit (f ∷ es) = (tt, formulas-fit es)
+        run-by (formed (argumentOf g is k es) f) (mark closes) rest (some _) (only-skips (room es) (the comma) _ _ (mark closes) refl)
 
     arguments-on : (es : List Formula) → length es ≤ 4 → (rest : List Token) → Delimited rest
         → run (itemNamed g is k) (bracketTokens formulaTokens es ++ rest) ≡ run (itemDone g is (fact k (reverse es))) rest
@@ -335,7 +329,7 @@ module _ (g : Guarded) (is : List ItemTree) where
         ∙ ap (λ (l : List Token). run (wants (argumentOf g is k [])) l) (append-assoc (listTokens formulaTokens (f ∷ es)) (mark closes ∷ []) rest)
         ∙ list-on formulaTokens (λ (x : Formula). x) (λ x. Unit {0}) (λ xs. wants (argumentOf g is k xs)) (λ xs x. formed (argumentOf g is k xs) x)
         (λ xs. itemDone g is (fact k xs)) (mark closes) (refl, refl, refl) 3 argument-comma part argument-end
-        (wants (argumentOf g is k [])) f es rest (formulas-fit es) (omega arith) (λ l d′. part [] f l tt d′)
+        (wants (argumentOf g is k [])) f es rest (each-fits es) (omega arith) (λ l d′. part [] f l tt d′)
         ∙ ap (λ (l : List Formula). run (itemDone g is (fact k (reverse l))) rest) (map-same (f ∷ es))
       where
         opened : (l : List Token) → run (itemNamed g is k) (mark opens ∷ l) ≡ run (wants (argumentOf g is k [])) l

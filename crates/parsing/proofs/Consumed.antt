@@ -18,7 +18,8 @@ use Rattle.text.specs.Text.{ItemShaped, Shaped}
 use Rattle.parsing.specs.Progress.{Group, first, second, Guarded, Side, leftOf, rightOf, argumentOf, Progress, declared, named, slashed, sized, ruled}
 use Rattle.parsing.specs.Progress.{headNamed, headWants, headSlot, headDone, headNext, headed, wants, term, operated, formed, body, emptied}
 use Rattle.parsing.specs.Progress.{itemNamed, itemDone, itemNext, tableWith, headWith, guarded, withGuard, tableOf}
-use Rattle.parsing.specs.Edges.{Edge, only, room, inTurn, edgesOf, step, behindGroup, behindHead, behindSymbol, behindFormula, itemEdges, bodyEdges, behindItem}
+use Rattle.parsing.specs.Edges.{Edge, only, room, inTurn, edgesOf, step, behindGroup, behindHead, behindSymbol, behindFormula, itemEdges}
+use Rattle.parsing.specs.Edges.{bodyEdges, behindItem}
 use Rattle.parsing.proofs.Steps.{Keeps, along-keeps, so, test-equal, andThen, run}
 
 -- ---- lists, before `rest`

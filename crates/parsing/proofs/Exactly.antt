@@ -13,7 +13,7 @@ use Rattle.text.specs.Text.{Text, Begins}
 use Rattle.parsing.specs.Progress.{Progress, declared}
 use Rattle.parsing.specs.Edges.{step}
 use Rattle.parsing.specs.Parsed.{whole, Parsed, tree, strange, wrong, unfinished, ended, wrongFrom, goOn, parsedFrom, parsed}
-use Rattle.parsing.proofs.Steps.{andThen, run, run-append}
+use Rattle.parsing.proofs.Steps.{andThen, run, run-by, run-on}
 use Rattle.parsing.proofs.Complete.{Reaches, complete}
 use Rattle.parsing.proofs.Sound.{sound}
 use Rattle.parsing.proofs.Finish.{Finish, finish}
@@ -78,7 +78,7 @@ begins-run ts s e =
       text = sound (ts ++ f .rest) (f .tree)
           (record {
             state = f .reaches .state;
-            runs = run-append (declared []) ts (f .rest) ∙ ap (λ (o : Option Progress). andThen o (λ s′. run s′ (f .rest))) e ∙ f .reaches .runs;
+            runs = run-on (declared []) ts (f .rest) (some s) e ∙ f .reaches .runs;
             whole = f .reaches .whole;
           });
     }
@@ -86,7 +86,7 @@ begins-run ts s e =
 never-run : (ts : List Token) → run (declared []) ts ≡ none → Never ts
 never-run ts e rest w x =
     let r : Reaches (declared []) (ts ++ rest) w = reached (ts ++ rest) w x in
-    let stuck : run (declared []) (ts ++ rest) ≡ none = run-append (declared []) ts rest ∙ ap (λ (o : Option Progress). andThen o (λ s. run s rest)) e in
+    let stuck : run (declared []) (ts ++ rest) ≡ none = run-on (declared []) ts rest none e in
     apart (run (declared []) (ts ++ rest)) (r .state) stuck (r .runs)
 
 -- some tokens begin a text exactly if the machine reads them
@@ -111,7 +111,7 @@ run-never ts never = go (run (declared []) ts) refl
 -- a step more
 run-last : (s s′ : Progress) (ts : List Token) (t : Token) → run s ts ≡ some s′ → run s (ts ++ (t ∷ [])) ≡ step s′ t
 unfolding run
-run-last s s′ ts t e = run-append s ts (t ∷ []) ∙ ap (λ (o : Option Progress). andThen o (λ s″. run s″ (t ∷ []))) e ∙ last (step s′ t)
+run-last s s′ ts t e = run-on s ts (t ∷ []) (some s′) e ∙ last (step s′ t)
   where
     last : (o : Option Progress) → andThen o (λ s″. run s″ []) ≡ o
     last none = refl
@@ -158,7 +158,7 @@ answered-more s s′ p t more (tree w) e a = (
   a .0,
   record {
     state = a .1 .state;
-    runs = ap (λ (x : Option Progress). andThen x (λ s″. run s″ (tokensIn more))) e ∙ a .1 .runs;
+    runs = run-by s t (tokensIn more) (some s′) e ∙ a .1 .runs;
     whole = a .1 .whole;
   },
 )
@@ -170,7 +170,7 @@ answered-more s s′ p t more (wrong q) e a = (
     token = a .1 .token;
     stands = (refl, a .1 .stands);
     state = a .1 .state;
-    runs = ap (λ (x : Option Progress). andThen x (λ s″. run s″ (a .1 .before))) e ∙ a .1 .runs;
+    runs = run-by s t (a .1 .before) (some s′) e ∙ a .1 .runs;
     refuses = a .1 .refuses;
   },
 )
@@ -178,7 +178,7 @@ answered-more s s′ p t more unfinished e a = (
   a .0,
   record {
     state = a .1 .state;
-    runs = ap (λ (x : Option Progress). andThen x (λ s″. run s″ (tokensIn more))) e ∙ a .1 .runs;
+    runs = run-by s t (tokensIn more) (some s′) e ∙ a .1 .runs;
     whole = a .1 .whole;
   },
 )

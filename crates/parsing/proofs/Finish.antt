@@ -1,8 +1,8 @@
 -- From every state a text can be gone on with to its end: a few more tokens are enough, the same for all states of a kind.
 use Prim.Native.Nat.{ℕ}
 use native.Mathlib.Omega.{arith}
-use mathlib.Core.Path.{_≡_, refl, ap, _∙_}
-use mathlib.Core.Option.{Option, some}
+use mathlib.Core.Path.{_≡_, refl, _∙_}
+use mathlib.Core.Option.{some}
 use mathlib.Core.List.{List, [], _∷_}
 use lib.IntN.{pos}
 use Rattle.model.proofs.Every.{every}
@@ -16,7 +16,7 @@ use Rattle.parsing.specs.Progress.{headNamed, headWants, headSlot, headD
 use Rattle.parsing.specs.Progress.{itemNamed, itemDone, itemNext, tableWith, headWith, guarded, withGuard, tableOf}
 use Rattle.parsing.specs.Edges.{room, inTurn, edgesOf, step, along, by}
 use Rattle.parsing.specs.Parsed.{forward, whole}
-use Rattle.parsing.proofs.Steps.{only-skips, andThen, run}
+use Rattle.parsing.proofs.Steps.{only-skips, run, run-by}
 use Rattle.parsing.proofs.Complete.{Reaches}
 
 -- good tokens with which the text ends
@@ -28,14 +28,13 @@ pub record Finish (s : Progress) : Type 0 where
 
 -- a token more, before them
 go-on : (s s′ : Progress) (t : Token) → TokenGood t → step s t ≡ some s′ → Finish s′ → Finish s
-unfolding run
 go-on s s′ t g e f = record {
   rest = t ∷ f .rest;
   good = (g, f .good);
   tree = f .tree;
   reaches = record {
     state = f .reaches .state;
-    runs = ap (λ (o : Option Progress). andThen o (λ s″. run s″ (f .rest))) e ∙ f .reaches .runs;
+    runs = run-by s t (f .rest) (some s′) e ∙ f .reaches .runs;
     whole = f .reaches .whole;
   };
 }

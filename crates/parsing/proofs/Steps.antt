@@ -165,6 +165,11 @@ unfoldable pub run : Progress → List Token → Option Progress
 run s [] = some s
 run s (t ∷ ts) = andThen (step s t) (λ s′. run s′ ts)
 
+-- a step, and the run behind it
+pub run-by : (s : Progress) (t : Token) (ts : List Token) (o : Option Progress) → step s t ≡ o → run s (t ∷ ts) ≡ andThen o (λ s′. run s′ ts)
+unfolding run
+run-by s t ts o e = ap (λ (x : Option Progress). andThen x (λ s′. run s′ ts)) e
+
 pub run-append : (s : Progress) (ts us : List Token) → run s (ts ++ us) ≡ andThen (run s ts) (λ s′. run s′ us)
 unfolding run
 run-append s [] us = refl
@@ -174,3 +179,7 @@ run-append s (t ∷ ts) us = go (step s t) (λ s′. run-append s′ ts us)
         → andThen o (λ s′. run s′ (ts ++ us)) ≡ andThen (andThen o (λ s′. run s′ ts)) (λ s″. run s″ us)
     go none later = refl
     go (some s′) later = later s′
+
+-- a run, and the run behind it
+pub run-on : (s : Progress) (ts us : List Token) (o : Option Progress) → run s ts ≡ o → run s (ts ++ us) ≡ andThen o (λ s′. run s′ us)
+run-on s ts us o e = run-append s ts us ∙ ap (λ (x : Option Progress). andThen x (λ s′. run s′ us)) e
