@@ -9,3 +9,4 @@ pub mod Finish
 pub mod Exactly
 pub mod Ranges
 pub mod Tables
+pub mod Examples
