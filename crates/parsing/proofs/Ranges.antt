@@ -2,6 +2,7 @@
 -- one's symbol is in range. Each part's tokens stand among the text's.
 use Prim.Native.Nat.{ℕ, suc, _+_, _≤_}
 use native.Mathlib.Omega.{arith}
+use mathlib.Core.Path.{_≡_}
 use mathlib.Core.List.{List, [], _∷_, _++_}
 use lib.ListN.{length}
 use Rattle.model.proofs.Every.{every, every-left, every-right}
@@ -10,6 +11,9 @@ use Rattle.grammar.specs.WellFormed.{TermGood, FormulaGood}
 use Rattle.text.specs.Token.{Token, symbol, compares, mark, backslash, simplifies, propagates, bar, closes, stop, TokenGood}
 use Rattle.text.specs.Text.{moreTokens, listTokens, bracketTokens, eachTokens, termTokens, formulaTokens, headTokens, guardTokens, itemTokens, headsTokens}
 use Rattle.text.specs.Text.{guardsTokens, bodyTokens, ruleTokens, declarationTokens, declarationsTokens, textTokens}
+use Rattle.text.specs.Tokens.{Lexed, tokensIn}
+use Rattle.parsing.specs.Parsed.{tree, parsed}
+use Rattle.parsing.proofs.Exactly.{text-exactly}
 
 -- ---- in range
 
@@ -157,3 +161,7 @@ ranged w u = record {
       omega (arith, declarations-ranged 0 (w .arities) (omega arith) (left (declarationsTokens 0 (w .arities)) (eachTokens ruleTokens (w .rules)) u));
   rules = each-ranged ruleTokens RuleRanged rule-ranged (w .rules) (right (declarationsTokens 0 (w .arities)) (eachTokens ruleTokens (w .rules)) u);
 }
+
+-- So it is of every text that is read, if its tokens have a spelling.
+pub text-ranged : (l : Lexed) (w : TableTree) → every TokenGood (tokensIn l) → parsed l ≡ tree w → Ranged w
+text-ranged l w g e = ranged w (rw (text-exactly l w .0 e .1 .spells) g)
