@@ -1,1 +1,2 @@
 -- What holds of tokens and texts.
+pub mod Lexing
