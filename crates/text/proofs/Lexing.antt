@@ -16,23 +16,11 @@ use borrow.Author.Tests.{leb-true, eqb-true}
 use Rattle.numbers.specs.Laws.{InRange, pos-ranged, negsuc-ranged}
 use Rattle.model.proofs.Every.{every}
 use Rattle.grammar.specs.Tree.{constant, variable}
+use Rattle.text.proofs.Bytes.{no-test, and-left, and-right}
 use Rattle.text.specs.Token.{Token, symbol, slot, mark, Mark, trueWord, failWord, isSlot, TokenGood}
 use Rattle.text.specs.Spelling.{isBlank, isWordByte, isDigit, run, digits, value, negative, indexOf, Found, found, nothing, begins, indexed, constantOf}
 use Rattle.text.specs.Spelling.{keyword, word, negated, Sign, signs, signOf, tokenAt}
 use Rattle.text.specs.Tokens.{Lexed, end, noToken, next, lexedBy, lexedFrom, lexed, tokensIn}
-
--- ---- tests
-
-pub no-test : {X : Type 0} → true ≡ false → X
-no-test e = absurd (let z : _≡_ {A = ℕ} 0 1 = cc in omega arith)
-
-pub and-left : (a b : Bool) → a && b ≡ true → a ≡ true
-and-left true b e = refl
-and-left false b e = no-test (sym e)
-
-pub and-right : (a b : Bool) → a && b ≡ true → b ≡ true
-and-right true b e = e
-and-right false b e = no-test (sym e)
 
 -- ---- what holds of what is found
 
