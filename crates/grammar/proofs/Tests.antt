@@ -85,7 +85,7 @@ operation-few product = refl
 operation-few quotient = refl
 operation-few remainder = refl
 
-operation-numbered : (n : ℕ) → suc n ≤ 5 → operationNumber (operationOf (suc n)) ≡ suc n
+pub operation-numbered : (n : ℕ) → suc n ≤ 5 → operationNumber (operationOf (suc n)) ≡ suc n
 unfolding operationOf
 operation-numbered zero h = refl
 operation-numbered (suc zero) h = refl

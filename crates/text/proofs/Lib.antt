@@ -1,1 +1,3 @@
 -- What holds of tokens and texts.
+pub mod Bytes
+pub mod Lexing

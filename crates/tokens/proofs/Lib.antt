@@ -1,0 +1,6 @@
+-- What holds of the code's tokens.
+pub mod SignReads
+pub mod DigitReads
+pub mod WordReads
+pub mod Finds
+pub mod Numbered
