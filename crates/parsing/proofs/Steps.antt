@@ -14,7 +14,8 @@ use Rattle.model.proofs.Lists.{OptionIs, either, never}
 use Rattle.grammar.specs.Tree.{constant, variable, sum, difference, product, quotient, remainder}
 use Rattle.text.specs.Token.{Token, symbol, slot, compares, operates, mark, Mark, backslash, simplifies, propagates, bar, opens, closes, comma, stop}
 use Rattle.text.specs.Token.{trueWord, failWord}
-use Rattle.parsing.specs.Classes.{Class, aSymbol, aSlot, aComparator, anOperation, slash, anArity, the, Said, saying, said, markNumber, markSaid}
+use Rattle.parsing.specs.Classes.{Class, aSymbol, aSlot, aComparator, anOperation, slash, anArity, the, Said, saying, said, markSaid}
+use Rattle.text.specs.Token.{markNumber}
 use Rattle.parsing.specs.Classes.{slashSaid, aritySaid}
 use Rattle.parsing.specs.Progress.{Progress}
 use Rattle.parsing.specs.Edges.{Edge, edge, only, by, along, step}

@@ -6,7 +6,7 @@ use lib.Dec.{leb, eqb}
 use lib.IntN.{ℤ, pos, negsuc}
 use Rattle.grammar.specs.Tree.{Term, constant, variable, Operation, quotient, operationNumber, Comparator}
 use Rattle.text.specs.Token.{Token, symbol, slot, compares, operates, mark, Mark, backslash, simplifies, propagates, bar, opens, closes, comma, stop}
-use Rattle.text.specs.Token.{trueWord, failWord}
+use Rattle.text.specs.Token.{trueWord, failWord, markNumber}
 
 pub data Class : Type 0 where
   aSymbol aSlot aComparator anOperation : Class
@@ -32,18 +32,6 @@ saying anOperation o = operates o
 saying slash x = operates quotient
 saying anArity a = slot (constant (pos a))
 saying (the m) x = mark m
-
-abbrev pub markNumber : Mark → ℕ
-markNumber backslash = 0
-markNumber simplifies = 1
-markNumber propagates = 2
-markNumber bar = 3
-markNumber opens = 4
-markNumber closes = 5
-markNumber comma = 6
-markNumber stop = 7
-markNumber trueWord = 8
-markNumber failWord = 9
 
 -- "arity is a constant of value 0..4"
 abbrev pub arityOf : Term → Option ℕ

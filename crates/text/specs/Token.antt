@@ -9,6 +9,19 @@ pub data Mark : Type 0 where
   backslash simplifies propagates bar opens closes comma stop : Mark
   trueWord failWord : Mark
 
+-- the marks are numbered in that order
+abbrev pub markNumber : Mark → ℕ
+markNumber backslash = 0
+markNumber simplifies = 1
+markNumber propagates = 2
+markNumber bar = 3
+markNumber opens = 4
+markNumber closes = 5
+markNumber comma = 6
+markNumber stop = 7
+markNumber trueWord = 8
+markNumber failWord = 9
+
 -- a slot is a constant or a variable
 pub data Token : Type 0 where
   symbol : ℕ → Token

@@ -4,7 +4,8 @@ use Prim.Native.Nat.{ℕ, zero, suc, _≤_}
 use native.Mathlib.Omega.{arith}
 use mathlib.Core.Path.{_≡_, refl}
 use Rattle.text.specs.Token.{Mark, backslash, simplifies, propagates, bar, opens, closes, comma, stop, trueWord, failWord}
-use Rattle.tokens.specs.Views.{markOf, markNumber}
+use Rattle.tokens.specs.Views.{markOf}
+use Rattle.text.specs.Token.{markNumber}
 
 pub mark-back : (n : ℕ) → n ≤ 9 → markNumber (markOf n) ≡ n
 unfolding markOf

@@ -20,18 +20,6 @@ unfoldable pub markOf : ℕ → Mark
 markOf n =
     getD (backslash ∷ simplifies ∷ propagates ∷ bar ∷ opens ∷ closes ∷ comma ∷ stop ∷ trueWord ∷ failWord ∷ []) n backslash
 
-abbrev pub markNumber : Mark → ℕ
-markNumber backslash = 0
-markNumber simplifies = 1
-markNumber propagates = 2
-markNumber bar = 3
-markNumber opens = 4
-markNumber closes = 5
-markNumber comma = 6
-markNumber stop = 7
-markNumber trueWord = 8
-markNumber failWord = 9
-
 -- comparators and operations by the numbers of document 01
 abbrev pub tokenOf : CodeToken → Token
 tokenOf (Symbol k) = symbol k

@@ -1,0 +1,22 @@
+-- `bodies::headed` meets its contract.
+use borrow.Author.Needs.{needs}
+use Rattle.assembly.specs.Moves.{movesOf}
+use Rattle.assembly.proofs.Going.{goes-no-slot, goes-guard}
+use Rattle.assembly.proofs.bodies.headed.Statement.{statement}
+use Rattle.assembly.proofs.bodies.headed.Tie as tie
+
+pub headed-spec : {M : Type 1} → statement M
+unfolding movesOf
+headed-spec =
+    tie.close
+    (tie.spec
+    (λ c κs. search needs)
+    (λ c κs. search needs)
+    (λ c. search needs)
+    (λ c κs. search needs)
+    (λ c κs. search needs)
+    (λ c. search needs)
+    (λ c. goes-guard _ _ _ _ (c .before .before .before .before .before .before .before .before .before .before .is-slot .ensures) (c .before .before .before .before .before .before .before .before .before .if1 .taken) (c .here .ensures) (c .before .before .before .before .before .before .before .put .ensures) (c .before .before .before .put-slot .ensures))
+    (λ c κs. search needs)
+    (λ c. search needs)
+    (λ c. goes-no-slot _ _ _ (c .before .before .before .before .before .is-slot .ensures) (c .before .before .before .before .if1 .left) (c .before .before .body .ensures)))

@@ -1,0 +1,28 @@
+-- `pieces::put_slot` meets its contract.
+use borrow.Author.Needs.{needs}
+use Rattle.assembly.specs.Moves.{movesOf}
+use Rattle.assembly.proofs.Going.{going}
+use Rattle.assembly.proofs.Laying.{five-laid}
+use Rattle.assembly.proofs.pieces.put_slot.Statement.{statement}
+use Rattle.assembly.proofs.pieces.put_slot.Tie as tie
+
+pub put-slot-spec : {M : Type 1} → statement M
+unfolding movesOf
+put-slot-spec =
+    tie.close
+    (tie.spec
+    (λ c κs. search needs)
+    (λ c. search needs)
+    (λ c. search needs)
+    (λ c κs. search needs)
+    (λ c. search needs)
+    (λ c. search needs)
+    (λ c κs. search needs)
+    (λ c. search needs)
+    (λ c. search needs)
+    (λ c κs. search needs)
+    (λ c. search needs)
+    (λ c. search needs)
+    (λ c κs. search needs)
+    (λ c. search needs)
+    (λ c. five-laid _ _ _ _ (c .before .before .before .before .before .before .before .before .before .before .before .before .before .before .before .before .before .before .put .ensures) (c .before .before .before .before .before .before .before .before .before .before .before .before .before .before .put2 .ensures) (c .before .before .before .before .before .before .before .before .before .before .put3 .ensures) (c .before .before .before .before .before .before .put4 .ensures) (c .before .before .put5 .ensures)))
