@@ -174,6 +174,22 @@ module _ (text : List ℕ) (at : ℕ) (inside : at < length text) where
   none-read n60 n61 n62 n92 n124 n40 n41 n44 n46 n43 n45 n42 n47 n37 =
       let b = getD text at 0 in
       record {
-        same = sym (rw (front text at inside refl, ne-eqb b 60 n60, ne-eqb b 61 n61, ne-eqb b 92 n92, ne-eqb b 62 n62, ne-eqb b 124 n124, ne-eqb b 43 n43, ne-eqb b 45 n45, ne-eqb b 42 n42, ne-eqb b 47 n47, ne-eqb b 37 n37, ne-eqb b 40 n40, ne-eqb b 41 n41, ne-eqb b 44 n44, ne-eqb b 46 n46));
+        same = sym (rw (
+          front text at inside refl,
+          ne-eqb b 60 n60,
+          ne-eqb b 61 n61,
+          ne-eqb b 92 n92,
+          ne-eqb b 62 n62,
+          ne-eqb b 124 n124,
+          ne-eqb b 43 n43,
+          ne-eqb b 45 n45,
+          ne-eqb b 42 n42,
+          ne-eqb b 47 n47,
+          ne-eqb b 37 n37,
+          ne-eqb b 40 n40,
+          ne-eqb b 41 n41,
+          ne-eqb b 44 n44,
+          ne-eqb b 46 n46,
+        ));
         sane = tt;
       }
