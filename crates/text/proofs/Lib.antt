@@ -1,3 +1,4 @@
 -- What holds of tokens and texts.
 pub mod Bytes
 pub mod Lexing
+pub mod Longest
