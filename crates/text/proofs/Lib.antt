@@ -2,3 +2,4 @@
 pub mod Bytes
 pub mod Lexing
 pub mod Longest
+pub mod First
