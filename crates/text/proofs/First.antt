@@ -86,7 +86,8 @@ stops-token {after} {b} {p} {q} {n} {bs} {t} e f s = go n (found-length after (b
           };
         }
 
-module _ (after : Bool) (p q b : ℕ) (bs : List ℕ) (more : (k : ℕ) (a : Bool) → stopsAt (lexedFrom k a (suc p) bs) ≡ some q → Stops a (drop k bs) (suc p + k) q) where
+module _ (after : Bool) (p q b : ℕ) (bs : List ℕ)
+    (more : (k : ℕ) (a : Bool) → stopsAt (lexedFrom k a (suc p) bs) ≡ some q → Stops a (drop k bs) (suc p + k) q) where
   stops-found : (r : Found) → tokenAt after (b ∷ bs) ≡ r → isBlank b ≡ false
       → stopsAt (lexedBy p (λ n slot. lexedFrom n slot (suc p) bs) r) ≡ some q → Stops after (b ∷ bs) p q
   unfolding stopsAt lexedBy

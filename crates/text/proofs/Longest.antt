@@ -131,7 +131,8 @@ unfolding signOf noWords
 sign-unsplit [] bs w = is-nothing
 sign-unsplit (s ∷ ss) bs w =
     is-cond (begins (s .spelling) bs)
-    (λ e. is-found (λ l h. no-test (sym h ∙ begins-byte (s .spelling) bs (length (s .spelling) - 1) e (and-left (noWord (s .spelling)) (noWords ss) w) (omega arith))))
+    (λ e. is-found (λ l h. no-test (sym h
+    ∙ begins-byte (s .spelling) bs (length (s .spelling) - 1) e (and-left (noWord (s .spelling)) (noWords ss) w) (omega arith))))
     (λ e. sign-unsplit ss bs (and-right (noWord (s .spelling)) (noWords ss) w))
 
 unsplit : (after : Bool) (bs : List ℕ) → FoundIs (λ t n. 1 ≤ n → Unsplit bs n) (tokenAt after bs)
