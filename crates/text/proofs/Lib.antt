@@ -3,3 +3,4 @@ pub mod Bytes
 pub mod Lexing
 pub mod Longest
 pub mod First
+pub mod Back
