@@ -11,16 +11,17 @@ use lib.IntN.{ℤ, pos, negsuc}
 use lib.Signed.{mag}
 use lib.ListN.{length, getD, drop}
 use lib.Seq.{drop-append-seam}
-use borrow.Author.Tests.{ltb-true, lt-ltb, le-ltb, le-leb, ne-eqb}
+use borrow.Author.Tests.{ltb-true, ltb-false, lt-ltb, le-ltb, le-leb, ne-eqb}
 use Rattle.numbers.specs.Laws.{InRange}
 use Rattle.model.proofs.Every.{every}
 use Rattle.grammar.specs.Tree.{Term, constant, variable}
-use Rattle.text.specs.Token.{Token, symbol, slot, isSlot, TokenGood}
+use Rattle.text.specs.Token.{Token, symbol, slot, mark, trueWord, failWord, isSlot, TokenGood}
 use Rattle.text.specs.Spelling.{isBlank, isDigit, isWordByte, run, digits, value, valueFrom, negative, indexOf, Found, found, nothing, indexed, constantOf}
-use Rattle.text.specs.Spelling.{keyword, word, negated, tokenAt}
+use Rattle.text.specs.Spelling.{begins, keyword, word, negated, tokenAt}
 use Rattle.text.specs.Printed.{decimalBefore, decimal}
 use Rattle.text.proofs.Bytes.{digit-is, digit-low, digit-high, digit-word}
-use Rattle.text.proofs.Lexing.{run-some}
+use Rattle.text.specs.Tokens.{AllTokens, lexedFrom, lexed, tokensIn}
+use Rattle.text.proofs.Lexing.{run-some, lexed-blank, lexed-token}
 
 -- ---- decimal numbers
 
@@ -28,7 +29,7 @@ use Rattle.text.proofs.Lexing.{run-some}
 abbrev pub AllDigits : List ℕ → Type 0
 AllDigits ds = every (λ (d : ℕ). isDigit d ≡ true) ds
 
-numeralFrom : ℕ → List ℕ → ℕ
+pub numeralFrom : ℕ → List ℕ → ℕ
 numeralFrom v [] = v
 numeralFrom v (d ∷ ds) = numeralFrom (10 * v + (d - 48)) ds
 
@@ -88,6 +89,25 @@ decimal-two : (n : ℕ) → 10 ≤ n → n < 100 → decimal n ≡ (48 + n / 10)
 unfolding decimal decimalBefore
 decimal-two n l h = rw (le-ltb n 10 l, lt-ltb (n / 10) 10 (omega arith))
 
+before-length : (d n : ℕ) (later : List ℕ) → length later ≤ length (decimalBefore d n later)
+unfolding decimalBefore
+before-length zero n later = omega arith
+before-length (suc d) n later = go (ltb n 10) (before-length d (n / 10) ((48 + n % 10) ∷ later))
+  where
+    go : (t : Bool) → suc (length later) ≤ length (decimalBefore d (n / 10) ((48 + n % 10) ∷ later))
+        → length later ≤ length (cond t ((48 + n) ∷ later) (decimalBefore d (n / 10) ((48 + n % 10) ∷ later)))
+    go true h = omega arith
+    go false h = omega arith
+
+pub decimal-some : (n : ℕ) → 1 ≤ length (decimal n)
+unfolding decimal decimalBefore
+decimal-some n = go (ltb n 10) (before-length 9 (n / 10) ((48 + n % 10) ∷ []))
+  where
+    go : (t : Bool) → 1 ≤ length (decimalBefore 9 (n / 10) ((48 + n % 10) ∷ []))
+        → 1 ≤ length (cond t ((48 + n) ∷ []) (decimalBefore 9 (n / 10) ((48 + n % 10) ∷ [])))
+    go true h = omega arith
+    go false h = h
+
 -- ---- digits and what follows them
 
 -- no letter and no digit follows
@@ -113,3 +133,110 @@ module _ (rest : List ℕ) where
   unfolding valueFrom numeralFrom
   value-digits [] v = refl
   value-digits (d ∷ ds) v = value-digits ds (10 * v + (d - 48))
+
+-- ---- tokens by their texts
+
+module _ (rest : List ℕ) (ends : Ends rest) where
+  module _ (ds : List ℕ) (all : AllDigits ds) where
+    pub negated-digits : 1 ≤ length ds → numeralFrom 0 ds ≤ 2147483648
+        → negated (run (ds ++ rest)) (ds ++ rest) ≡ found (slot (constant (negative (numeralFrom 0 ds)))) (suc (length ds))
+    unfolding negated value
+    negated-digits h l =
+        rw (run-digits rest ds all ends, digits-digits rest ds all, value-digits rest ds 0, le-leb 1 (length ds) h, le-leb (numeralFrom 0 ds) 2147483648 l)
+
+    constant-digits : numeralFrom 0 ds ≤ 2147483647
+        → constantOf (run (ds ++ rest)) (ds ++ rest) ≡ found (slot (constant (pos (numeralFrom 0 ds)))) (length ds)
+    unfolding constantOf value
+    constant-digits l = rw (run-digits rest ds all ends, digits-digits rest ds all, value-digits rest ds 0, le-leb (numeralFrom 0 ds) 2147483647 l)
+
+  -- a constant that is not below zero begins with a digit
+  pub constant-found : (after : Bool) (d : ℕ) (ds : List ℕ) → AllDigits (d ∷ ds) → numeralFrom 0 (d ∷ ds) ≤ 2147483647
+      → tokenAt after (d ∷ (ds ++ rest)) ≡ found (slot (constant (pos (numeralFrom 0 (d ∷ ds))))) (length (d ∷ ds))
+  unfolding tokenAt word
+  constant-found after d ds a l =
+      let low = digit-low d (a .0) in
+      let high = digit-high d (a .0) in
+      let n₁ : d ≡ 115 → ⊥ = λ (e : d ≡ 115). omega arith in
+      let n₂ : d ≡ 86 → ⊥ = λ (e : d ≡ 86). omega arith in
+      rw (digit-word d (a .0), ne-eqb d 115 n₁, ne-eqb d 86 n₂, a .0) (constant-digits (d ∷ ds) a l)
+
+  pub number-found : (after : Bool) (ds : List ℕ) → AllDigits ds → 1 ≤ length ds → numeralFrom 0 ds ≤ 2147483647
+      → tokenAt after (ds ++ rest) ≡ found (slot (constant (pos (numeralFrom 0 ds)))) (length ds)
+  number-found after [] a h l = absurd (omega arith)
+  number-found after (d ∷ ds) a h l = constant-found after d ds a l
+
+  -- an index up to 99, in its one spelling
+  index-low : (most n : ℕ) → n ≤ most → n < 10 → indexOf most 1 ((48 + n) ∷ rest) ≡ some n
+  unfolding indexOf digits value valueFrom
+  index-low most n l h = let e : 10 * 0 + (48 + n - 48) ≡ n = omega arith in rw (digit-of n h, e, le-leb n most l)
+
+  index-two : (most n : ℕ) → n ≤ most → 10 ≤ n → n < 100 → indexOf most 2 ((48 + n / 10) ∷ (48 + n % 10) ∷ rest) ≡ some n
+  unfolding indexOf digits value valueFrom
+  index-two most n l m h =
+      let e : 10 * (10 * 0 + (48 + n / 10 - 48)) + (48 + n % 10 - 48) ≡ n = omega arith in
+      rw (digit-of (n / 10) (omega arith), digit-of (n % 10) (omega arith), e, le-ltb n 10 m, le-leb n most l)
+
+  index-found : (most n : ℕ) → n ≤ most → n < 100 → indexOf most (length (decimal n)) (decimal n ++ rest) ≡ some n
+  index-found most n l h = go (ltb n 10) refl
+    where
+      go : (t : Bool) → ltb n 10 ≡ t → indexOf most (length (decimal n)) (decimal n ++ rest) ≡ some n
+      go true e = let m = ltb-true n 10 e in rw (decimal-low n m) (index-low most n l m)
+      go false e = let m = ltb-false n 10 e in rw (decimal-two n m h) (index-two most n l m h)
+
+  pub symbol-found : (after : Bool) (k : ℕ) → k ≤ 31 → tokenAt after (115 ∷ (decimal k ++ rest)) ≡ found (symbol k) (suc (length (decimal k)))
+  unfolding tokenAt word indexed isWordByte
+  symbol-found after k h =
+      let all = decimal-digits k (omega arith) in
+      let n : run (115 ∷ (decimal k ++ rest)) ≡ suc (length (decimal k)) = run-some 115 (decimal k ++ rest) refl ∙ ap suc (run-digits rest (decimal k) all ends) in
+      let one : suc (length (decimal k)) - 1 ≡ length (decimal k) = omega arith in
+      rw (n, one, index-found 31 k h (omega arith))
+
+  pub variable-found : (after : Bool) (v : ℕ) → v ≤ 15 → tokenAt after (86 ∷ (decimal v ++ rest)) ≡ found (slot (variable v)) (suc (length (decimal v)))
+  unfolding tokenAt word indexed isWordByte
+  variable-found after v h =
+      let all = decimal-digits v (omega arith) in
+      let n : run (86 ∷ (decimal v ++ rest)) ≡ suc (length (decimal v)) = run-some 86 (decimal v ++ rest) refl ∙ ap suc (run-digits rest (decimal v) all ends) in
+      let one : suc (length (decimal v)) - 1 ≡ length (decimal v) = omega arith in
+      rw (n, one, index-found 15 v h (omega arith))
+
+  pub negative-found : (n : ℕ) → n < 2147483648
+      → tokenAt false (45 ∷ (decimal (suc n) ++ rest)) ≡ found (slot (constant (negsuc n))) (suc (length (decimal (suc n))))
+  unfolding tokenAt isWordByte negative
+  negative-found n h =
+      let says = decimal-says (suc n) (omega arith) in
+      negated-digits (decimal (suc n)) (decimal-digits (suc n) (omega arith)) (decimal-some (suc n)) (omega arith) ∙ rw says
+
+  run-none : run rest ≡ 0
+  run-none = run-digits rest [] tt ends
+
+  pub true-found : (after : Bool) → tokenAt after (116 ∷ 114 ∷ 117 ∷ 101 ∷ rest) ≡ found (mark trueWord) 4
+  unfolding tokenAt word isWordByte isDigit run keyword begins
+  true-found after = rw run-none
+
+  pub fail-found : (after : Bool) → tokenAt after (102 ∷ 97 ∷ 105 ∷ 108 ∷ rest) ≡ found (mark failWord) 4
+  unfolding tokenAt word isWordByte isDigit run keyword begins
+  fail-found after = rw run-none
+
+-- ---- bytes that are some tokens
+
+-- behind a token of which `after` says whether it is a constant or a variable, wherever the bytes stand
+pub record Lexes (after : Bool) (bs : List ℕ) (ts : List Token) : Type 0 where
+  pub all : (p : ℕ) → AllTokens (lexedFrom 0 after p bs)
+  pub same : (p : ℕ) → tokensIn (lexedFrom 0 after p bs) ≡ ts
+
+pub lexes-end : (after : Bool) → Lexes after [] []
+unfolding lexedFrom tokensIn
+lexes-end after = record { all = λ p. tt; same = λ p. refl }
+
+pub lexes-blank : {after : Bool} {bs : List ℕ} {ts : List Token} (b : ℕ) → isBlank b ≡ true → Lexes after bs ts → Lexes after (b ∷ bs) ts
+lexes-blank {after} {bs} b e l =
+    record { all = λ p. rw (lexed-blank after p b bs e) (l .all (suc p)); same = λ p. rw (lexed-blank after p b bs e) (l .same (suc p)) }
+
+pub lexes-token : {after : Bool} {bs : List ℕ} {ts : List Token} {t : Token} {n : ℕ} (b : ℕ) → isBlank b ≡ false → tokenAt after (b ∷ bs) ≡ found t n
+    → Lexes (isSlot t) (drop n (b ∷ bs)) ts → Lexes after (b ∷ bs) (t ∷ ts)
+unfolding tokensIn
+lexes-token {after} {bs} {ts} {t} {n} b e f l =
+    record {
+      all = λ p. rw (lexed-token after p b bs e f) (l .all (p + n));
+      same = λ p. rw (lexed-token after p b bs e f) (ap (λ (us : List Token). t ∷ us) (l .same (p + n)));
+    }
