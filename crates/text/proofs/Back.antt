@@ -12,14 +12,17 @@ use lib.Signed.{mag}
 use lib.ListN.{length, getD, drop}
 use lib.Seq.{drop-append-seam}
 use borrow.Author.Tests.{ltb-true, ltb-false, lt-ltb, le-ltb, le-leb, ne-eqb}
-use Rattle.numbers.specs.Laws.{InRange}
+use Rattle.numbers.specs.Numbers.{lowest, highest}
 use Rattle.model.proofs.Every.{every}
-use Rattle.grammar.specs.Tree.{Term, constant, variable}
-use Rattle.text.specs.Token.{Token, symbol, slot, mark, trueWord, failWord, isSlot, TokenGood}
+use Rattle.grammar.specs.Tree.{Term, constant, variable, Operation, sum, difference, product, quotient, remainder, Comparator, equal, unequal, less, atMost}
+use Rattle.grammar.specs.Tree.{greater, atLeast}
+use Rattle.grammar.specs.WellFormed.{TermGood}
+use Rattle.text.specs.Token.{Token, symbol, slot, compares, operates, mark, Mark, backslash, simplifies, propagates, bar, opens, closes, comma, stop}
+use Rattle.text.specs.Token.{trueWord, failWord, isSlot, TokenGood}
 use Rattle.text.specs.Spelling.{isBlank, isDigit, isWordByte, run, digits, value, valueFrom, negative, indexOf, Found, found, nothing, indexed, constantOf}
-use Rattle.text.specs.Spelling.{begins, keyword, word, negated, tokenAt}
-use Rattle.text.specs.Printed.{decimalBefore, decimal}
-use Rattle.text.proofs.Bytes.{digit-is, digit-low, digit-high, digit-word}
+use Rattle.text.specs.Spelling.{begins, keyword, word, negated, signs, signOf, tokenAt}
+use Rattle.text.specs.Printed.{decimalBefore, decimal, termText, symbolText, comparatorText, operationText, markText}
+use Rattle.text.proofs.Bytes.{digit-is, digit-low, digit-high, digit-word, word-no-blank}
 use Rattle.text.specs.Tokens.{AllTokens, lexedFrom, lexed, tokensIn}
 use Rattle.text.proofs.Lexing.{run-some, lexed-blank, lexed-token}
 
@@ -240,3 +243,84 @@ lexes-token {after} {bs} {ts} {t} {n} b e f l =
       all = λ p. rw (lexed-token after p b bs e f) (l .all (p + n));
       same = λ p. rw (lexed-token after p b bs e f) (ap (λ (us : List Token). t ∷ us) (l .same (p + n)));
     }
+
+-- ---- a printed token
+
+-- a word: letters and digits
+abbrev pub isWord : Token → Bool
+isWord (symbol k) = true
+isWord (slot a) = true
+isWord (compares c) = false
+isWord (operates o) = false
+isWord (mark backslash) = false
+isWord (mark simplifies) = false
+isWord (mark propagates) = false
+isWord (mark bar) = false
+isWord (mark opens) = false
+isWord (mark closes) = false
+isWord (mark comma) = false
+isWord (mark stop) = false
+isWord (mark trueWord) = true
+isWord (mark failWord) = true
+
+module _ (after : Bool) (rest : List ℕ) (ts : List Token) (l : Lexes false rest ts) where
+  comparator-lexes : (c : Comparator) → Lexes after (comparatorText c ++ rest) (compares c ∷ ts)
+  unfolding comparatorText isBlank tokenAt signOf signs begins isWordByte
+  comparator-lexes equal = lexes-blank 32 refl (lexes-token {n = 1} 61 refl refl (lexes-blank 32 refl l))
+  comparator-lexes unequal = lexes-blank 32 refl (lexes-token {n = 2} 92 refl refl (lexes-blank 32 refl l))
+  comparator-lexes less = lexes-blank 32 refl (lexes-token {n = 1} 60 refl refl (lexes-blank 32 refl l))
+  comparator-lexes atMost = lexes-blank 32 refl (lexes-token {n = 2} 61 refl refl (lexes-blank 32 refl l))
+  comparator-lexes greater = lexes-blank 32 refl (lexes-token {n = 1} 62 refl refl (lexes-blank 32 refl l))
+  comparator-lexes atLeast = lexes-blank 32 refl (lexes-token {n = 2} 62 refl refl (lexes-blank 32 refl l))
+
+  -- a minus is an operation behind a constant or a variable
+  operation-lexes : (o : Operation) → (o ≡ difference → after ≡ true) → Lexes after (operationText o ++ rest) (operates o ∷ ts)
+  unfolding operationText isBlank tokenAt signOf signs begins isWordByte
+  operation-lexes sum h = lexes-blank 32 refl (lexes-token {n = 1} 43 refl refl (lexes-blank 32 refl l))
+  operation-lexes difference h = lexes-blank 32 refl (lexes-token {n = 1} 45 refl (rw (h refl)) (lexes-blank 32 refl l))
+  operation-lexes product h = lexes-blank 32 refl (lexes-token {n = 1} 42 refl refl (lexes-blank 32 refl l))
+  operation-lexes quotient h = lexes-blank 32 refl (lexes-token {n = 1} 47 refl refl (lexes-blank 32 refl l))
+  operation-lexes remainder h = lexes-blank 32 refl (lexes-token {n = 1} 37 refl refl (lexes-blank 32 refl l))
+
+  mark-lexes : (m : Mark) → (isWord (mark m) ≡ true → Ends rest) → Lexes after (markText m ++ rest) (mark m ∷ ts)
+  unfolding markText isBlank tokenAt signOf signs begins isWordByte
+  mark-lexes backslash h = lexes-blank 32 refl (lexes-token {n = 1} 92 refl refl (lexes-blank 32 refl l))
+  mark-lexes simplifies h = lexes-blank 32 refl (lexes-token {n = 3} 60 refl refl (lexes-blank 32 refl l))
+  mark-lexes propagates h = lexes-blank 32 refl (lexes-token {n = 3} 61 refl refl (lexes-blank 32 refl l))
+  mark-lexes bar h = lexes-blank 32 refl (lexes-token {n = 1} 124 refl refl (lexes-blank 32 refl l))
+  mark-lexes opens h = lexes-token {n = 1} 40 refl refl l
+  mark-lexes closes h = lexes-token {n = 1} 41 refl refl l
+  mark-lexes comma h = lexes-token {n = 1} 44 refl refl (lexes-blank 32 refl l)
+  mark-lexes stop h = lexes-token {n = 1} 46 refl refl (lexes-blank 10 refl l)
+  mark-lexes trueWord h = lexes-token {n = 4} 116 refl (true-found rest (h refl) after) l
+  mark-lexes failWord h = lexes-token {n = 4} 102 refl (fail-found rest (h refl) after) l
+
+  symbol-lexes : (k : ℕ) → k ≤ 31 → Ends rest → Lexes after (symbolText k ++ rest) (symbol k ∷ ts)
+  unfolding symbolText isBlank
+  symbol-lexes k h e = lexes-token {n = suc (length (decimal k))} 115 refl (symbol-found rest e after k h) (rw (drop-append-seam (decimal k) rest) l)
+
+lexes-bytes : {after : Bool} {ts : List Token} {t : Token} {n : ℕ} (bs : List ℕ) → isBlank (getD bs 0 0) ≡ false → tokenAt after bs ≡ found t n
+    → Lexes (isSlot t) (drop n bs) ts → Lexes after bs (t ∷ ts)
+unfolding tokenAt
+lexes-bytes [] e f l = absurd (let z : _≡_ {A = ℕ} 0 1 = cc in omega arith)
+lexes-bytes (b ∷ bs) e f l = lexes-token b e f l
+
+digits-no-blank : (ds rest : List ℕ) → AllDigits ds → 1 ≤ length ds → isBlank (getD (ds ++ rest) 0 0) ≡ false
+digits-no-blank [] rest a h = absurd (omega arith)
+digits-no-blank (d ∷ ds) rest a h = word-no-blank d (digit-word d (a .0))
+
+module _ (rest : List ℕ) (ts : List Token) (l : Lexes true rest ts) (e : Ends rest) where
+  -- "A minus belongs to a constant unless a constant or variable stands before it"
+  slot-lexes : (a : Term) → TermGood a → Lexes false (termText a ++ rest) (slot a ∷ ts)
+  unfolding termText isBlank
+  slot-lexes (constant (pos n)) g =
+      let h : n ≤ 2147483647 = leb→le n (mag highest) (g .high .le) in
+      let all = decimal-digits n (omega arith) in
+      let says = decimal-says n (omega arith) in
+      lexes-bytes {n = length (decimal n)} (decimal n ++ rest) (digits-no-blank (decimal n) rest all (decimal-some n))
+      (number-found rest e false (decimal n) all (decimal-some n) (omega arith) ∙ rw says) (rw (drop-append-seam (decimal n) rest) l)
+  slot-lexes (constant (negsuc n)) g =
+      let h : n ≤ 2147483647 = leb→le n (mag lowest) (g .low .le) in
+      lexes-token {n = suc (length (decimal (suc n)))} 45 refl (negative-found rest e n (omega arith)) (rw (drop-append-seam (decimal (suc n)) rest) l)
+  slot-lexes (variable v) g =
+      lexes-token {n = suc (length (decimal v))} 86 refl (variable-found rest e false v g) (rw (drop-append-seam (decimal v) rest) l)
