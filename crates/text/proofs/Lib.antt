@@ -4,3 +4,4 @@ pub mod Lexing
 pub mod Longest
 pub mod First
 pub mod Back
+pub mod Neighbours
