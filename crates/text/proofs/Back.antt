@@ -264,7 +264,7 @@ isWord (mark trueWord) = true
 isWord (mark failWord) = true
 
 module _ (after : Bool) (rest : List ℕ) (ts : List Token) (l : Lexes false rest ts) where
-  comparator-lexes : (c : Comparator) → Lexes after (comparatorText c ++ rest) (compares c ∷ ts)
+  pub comparator-lexes : (c : Comparator) → Lexes after (comparatorText c ++ rest) (compares c ∷ ts)
   unfolding comparatorText isBlank tokenAt signOf signs begins isWordByte
   comparator-lexes equal = lexes-blank 32 refl (lexes-token {n = 1} 61 refl refl (lexes-blank 32 refl l))
   comparator-lexes unequal = lexes-blank 32 refl (lexes-token {n = 2} 92 refl refl (lexes-blank 32 refl l))
@@ -274,7 +274,7 @@ module _ (after : Bool) (rest : List ℕ) (ts : List Token) (l : Lexes false res
   comparator-lexes atLeast = lexes-blank 32 refl (lexes-token {n = 2} 62 refl refl (lexes-blank 32 refl l))
 
   -- a minus is an operation behind a constant or a variable
-  operation-lexes : (o : Operation) → (o ≡ difference → after ≡ true) → Lexes after (operationText o ++ rest) (operates o ∷ ts)
+  pub operation-lexes : (o : Operation) → (o ≡ difference → after ≡ true) → Lexes after (operationText o ++ rest) (operates o ∷ ts)
   unfolding operationText isBlank tokenAt signOf signs begins isWordByte
   operation-lexes sum h = lexes-blank 32 refl (lexes-token {n = 1} 43 refl refl (lexes-blank 32 refl l))
   operation-lexes difference h = lexes-blank 32 refl (lexes-token {n = 1} 45 refl (rw (h refl)) (lexes-blank 32 refl l))
@@ -282,7 +282,7 @@ module _ (after : Bool) (rest : List ℕ) (ts : List Token) (l : Lexes false res
   operation-lexes quotient h = lexes-blank 32 refl (lexes-token {n = 1} 47 refl refl (lexes-blank 32 refl l))
   operation-lexes remainder h = lexes-blank 32 refl (lexes-token {n = 1} 37 refl refl (lexes-blank 32 refl l))
 
-  mark-lexes : (m : Mark) → (isWord (mark m) ≡ true → Ends rest) → Lexes after (markText m ++ rest) (mark m ∷ ts)
+  pub mark-lexes : (m : Mark) → (isWord (mark m) ≡ true → Ends rest) → Lexes after (markText m ++ rest) (mark m ∷ ts)
   unfolding markText isBlank tokenAt signOf signs begins isWordByte
   mark-lexes backslash h = lexes-blank 32 refl (lexes-token {n = 1} 92 refl refl (lexes-blank 32 refl l))
   mark-lexes simplifies h = lexes-blank 32 refl (lexes-token {n = 3} 60 refl refl (lexes-blank 32 refl l))
@@ -295,7 +295,7 @@ module _ (after : Bool) (rest : List ℕ) (ts : List Token) (l : Lexes false res
   mark-lexes trueWord h = lexes-token {n = 4} 116 refl (true-found rest (h refl) after) l
   mark-lexes failWord h = lexes-token {n = 4} 102 refl (fail-found rest (h refl) after) l
 
-  symbol-lexes : (k : ℕ) → k ≤ 31 → Ends rest → Lexes after (symbolText k ++ rest) (symbol k ∷ ts)
+  pub symbol-lexes : (k : ℕ) → k ≤ 31 → Ends rest → Lexes after (symbolText k ++ rest) (symbol k ∷ ts)
   unfolding symbolText isBlank
   symbol-lexes k h e = lexes-token {n = suc (length (decimal k))} 115 refl (symbol-found rest e after k h) (rw (drop-append-seam (decimal k) rest) l)
 
@@ -311,7 +311,7 @@ digits-no-blank (d ∷ ds) rest a h = word-no-blank d (digit-word d (a .0))
 
 module _ (rest : List ℕ) (ts : List Token) (l : Lexes true rest ts) (e : Ends rest) where
   -- "A minus belongs to a constant unless a constant or variable stands before it"
-  slot-lexes : (a : Term) → TermGood a → Lexes false (termText a ++ rest) (slot a ∷ ts)
+  pub slot-lexes : (a : Term) → TermGood a → Lexes false (termText a ++ rest) (slot a ∷ ts)
   unfolding termText isBlank
   slot-lexes (constant (pos n)) g =
       let h : n ≤ 2147483647 = leb→le n (mag highest) (g .high .le) in

@@ -5,3 +5,4 @@ pub mod Longest
 pub mod First
 pub mod Back
 pub mod Neighbours
+pub mod PrintedBack
