@@ -2,12 +2,12 @@
 -- bytes of a sign.
 use Prim.Native.Nat.{ℕ, zero, suc, _+_, _-_, _*_, _/_, _%_, _≤_, _<_}
 use native.Mathlib.Omega.{arith}
-use mathlib.Core.Path.{_≡_, refl, sym, ap, _∙_, subst}
-use mathlib.Core.Bool.{Bool, true, false, cond, not, _&&_}
-use mathlib.Core.Option.{Option, none, some}
+use mathlib.Core.Path.{_≡_, refl, ap, _∙_}
+use mathlib.Core.Bool.{Bool, true, false, cond, not}
+use mathlib.Core.Option.{some}
 use mathlib.Core.List.{List, [], _∷_, _++_}
-use lib.Dec.{ltb, leb, eqb, leb→le}
-use lib.IntN.{ℤ, pos, negsuc}
+use lib.Dec.{ltb, leb→le}
+use lib.IntN.{pos, negsuc}
 use lib.Signed.{mag}
 use lib.ListN.{length, getD, drop}
 use lib.Seq.{drop-append-seam}
@@ -18,12 +18,12 @@ use Rattle.grammar.specs.Tree.{Term, constant, variable, Operation, sum, differ
 use Rattle.grammar.specs.Tree.{greater, atLeast}
 use Rattle.grammar.specs.WellFormed.{TermGood}
 use Rattle.text.specs.Token.{Token, symbol, slot, compares, operates, mark, Mark, backslash, simplifies, propagates, bar, opens, closes, comma, stop}
-use Rattle.text.specs.Token.{trueWord, failWord, isSlot, TokenGood}
-use Rattle.text.specs.Spelling.{isBlank, isDigit, isWordByte, run, digits, value, valueFrom, negative, indexOf, Found, found, nothing, indexed, constantOf}
+use Rattle.text.specs.Token.{trueWord, failWord, isSlot}
+use Rattle.text.specs.Spelling.{isBlank, isDigit, isWordByte, run, digits, value, valueFrom, negative, indexOf, found, indexed, constantOf}
 use Rattle.text.specs.Spelling.{begins, keyword, word, negated, signs, signOf, tokenAt}
 use Rattle.text.specs.Printed.{decimalBefore, decimal, termText, symbolText, comparatorText, operationText, markText}
 use Rattle.text.proofs.Bytes.{digit-is, digit-low, digit-high, digit-word, word-no-blank}
-use Rattle.text.specs.Tokens.{AllTokens, lexedFrom, lexed, tokensIn}
+use Rattle.text.specs.Tokens.{AllTokens, lexedFrom, tokensIn}
 use Rattle.text.proofs.Lexing.{run-some, lexed-blank, lexed-token}
 
 -- ---- decimal numbers

@@ -4,18 +4,17 @@ use Prim.Native.Nat.{ℕ, zero, suc, _+_, _-_, _≤_, _<_}
 use native.Mathlib.Nat.{add-zero}
 use native.Mathlib.Numerals.{add-one}
 use native.Mathlib.Omega.{arith}
-use mathlib.Core.Path.{_≡_, refl, sym, ap, subst₂, _∙_}
-use mathlib.Core.Bool.{Bool, true, false, cond, not, _&&_, _||_}
+use mathlib.Core.Path.{_≡_, refl, sym, subst₂}
+use mathlib.Core.Bool.{Bool, true, false, cond, not, _&&_}
 use mathlib.Core.Option.{Option, none, some}
 use mathlib.Core.List.{List, [], _∷_}
 use lib.Dec.{ltb, leb, eqb}
-use lib.IntN.{ℤ, pos, negsuc}
 use lib.ListN.{length, getD, drop, drop-of-length-le}
 use lib.Seq.{drop-cons, drop-drop}
 use borrow.Author.Tests.{leb-true, eqb-true}
 use Rattle.numbers.specs.Laws.{InRange, pos-ranged, negsuc-ranged}
 use Rattle.model.proofs.Every.{every}
-use Rattle.grammar.specs.Tree.{constant, variable}
+use Rattle.grammar.specs.Tree.{variable}
 use Rattle.text.proofs.Bytes.{no-test, and-left, and-right}
 use Rattle.text.specs.Token.{Token, symbol, slot, mark, Mark, trueWord, failWord, isSlot, TokenGood}
 use Rattle.text.specs.Spelling.{isBlank, isWordByte, isDigit, run, digits, value, negative, indexOf, Found, found, nothing, begins, indexed, constantOf}
@@ -84,7 +83,7 @@ index-most most n bs i = go (leb 1 n && (leb n 2 && digits n bs)) (eqb n 2 && lt
     go true false false e f = none-is f
     go false b c e f = none-is f
 
-negative-ranged : (n : ℕ) → n ≤ 2147483648 → InRange (negative n)
+pub negative-ranged : (n : ℕ) → n ≤ 2147483648 → InRange (negative n)
 unfolding negative
 negative-ranged zero h = pos-ranged 0 (omega arith)
 negative-ranged (suc n) h = negsuc-ranged n (omega arith)

@@ -1,8 +1,8 @@
 -- "The longest token is taken; a run of letters and digits is never split." The signs stand longest first, so that the first that fits is the
 -- longest; a word is a whole run, and no sign has a letter or a digit.
-use Prim.Native.Nat.{ℕ, zero, suc, _+_, _-_, _≤_, _<_}
+use Prim.Native.Nat.{ℕ, zero, suc, _-_, _≤_, _<_}
 use native.Mathlib.Omega.{arith}
-use mathlib.Core.Path.{_≡_, refl, sym, ap, _∙_, subst}
+use mathlib.Core.Path.{_≡_, refl, sym, _∙_}
 use mathlib.Core.Bool.{Bool, true, false, cond, not, _&&_}
 use mathlib.Core.List.{List, [], _∷_}
 use lib.Dec.{leb, eqb}
@@ -11,7 +11,7 @@ use borrow.Author.Tests.{eqb-true, not-true}
 use Rattle.model.proofs.Every.{every, every-weaken}
 use Rattle.grammar.specs.Tree.{variable}
 use Rattle.text.specs.Token.{Token, symbol, slot}
-use Rattle.text.specs.Spelling.{isWordByte, isDigit, run, digits, value, indexOf, Found, found, nothing, begins, constantOf, keyword, word, negated, Sign}
+use Rattle.text.specs.Spelling.{isWordByte, isDigit, run, digits, value, indexOf, found, begins, constantOf, keyword, word, negated, Sign}
 use Rattle.text.specs.Spelling.{signs, signOf, tokenAt}
 use Rattle.text.proofs.Bytes.{no-test, and-left, and-right}
 use Rattle.text.proofs.Lexing.{FoundIs, is-found, is-nothing, is-cond, is-when, is-indexed, found-length}

@@ -1,7 +1,6 @@
 -- Which tokens stand side by side in a text: no word follows a word, and an operation follows a constant or a variable. By the grammar, line by line:
 -- what stands behind a list or a part is always a sign, which may follow every token.
 use mathlib.Core.Path.{_≡_, refl, sym, subst}
-use mathlib.Core.Bool.{Bool, true, false}
 use mathlib.Core.List.{List, [], _∷_, _++_}
 use Rattle.grammar.specs.Tree.{Term, Operation, sum, difference, product, quotient, remainder, Formula, alone, applied, HeadTree, GuardTree, ItemTree, fact}
 use Rattle.grammar.specs.Tree.{fail, RuleTree}

@@ -1,6 +1,6 @@
 -- A printed tree is lexed back to its tokens. Each token is found again in its text, since its neighbours are as in a text: no word follows a word,
 -- and an operation follows a constant or a variable.
-use Prim.Native.Nat.{ℕ, zero, suc, _≤_}
+use Prim.Native.Nat.{ℕ, suc, _≤_}
 use native.Mathlib.Omega.{arith}
 use mathlib.Core.Path.{_≡_, refl, sym, ap, _∙_}
 use mathlib.Core.Bool.{Bool, true, false}
@@ -11,14 +11,14 @@ use Rattle.model.proofs.Every.{every, every-left, every-right}
 use Rattle.grammar.specs.Tree.{constant, Operation, sum, difference, product, quotient, remainder, Comparator, equal, unequal, less, atMost, greater}
 use Rattle.grammar.specs.Tree.{atLeast, TableTree}
 use Rattle.text.specs.Token.{Token, symbol, slot, compares, operates, mark, Mark, backslash, simplifies, propagates, bar, opens, closes, comma, stop}
-use Rattle.text.specs.Token.{trueWord, failWord, isSlot, TokenGood}
+use Rattle.text.specs.Token.{trueWord, failWord, TokenGood}
 use Rattle.text.specs.Spelling.{isBlank, isWordByte, begins, signs, signOf, tokenAt}
 use Rattle.text.specs.Tokens.{AllTokens, lexed, tokensIn}
 use Rattle.text.specs.Text.{eachTokens, ruleTokens, declarationTokens, declarationsTokens, textTokens}
 use Rattle.text.specs.Printed.{decimal, termText, symbolText, comparatorText, operationText, markText, tokenText, tokensText, declarationsText, printed}
 use Rattle.text.proofs.Bytes.{no-test}
 use Rattle.text.proofs.Back.{Ends, isWord, Lexes, lexes-end, lexes-blank, lexes-token, comparator-lexes, operation-lexes, mark-lexes, symbol-lexes, slot-lexes}
-use Rattle.text.proofs.Neighbours.{Kind, sign, value, word, markKind, kindOf, Follows, MayOperate, MayStand, Flow, rules-flow}
+use Rattle.text.proofs.Neighbours.{Kind, sign, value, word, markKind, Follows, MayOperate, Flow, rules-flow}
 
 -- whether a token of this kind is a constant or a variable
 abbrev afterOf : Kind → Bool

@@ -1,28 +1,26 @@
 -- Words as the code reads them, byte by byte: the index behind `s` or `V` is one digit or two and the run ends there; `true` and `fail` likewise.
 -- By the cases of the first bytes.
 use Prim.Native.Nat.{ℕ, zero, suc, _+_, _-_, _*_, _≤_, _<_}
-use native.Mathlib.Numerals.{add-one}
 use native.Mathlib.Omega.{arith}
 use mathlib.Core.Path.{_≡_, refl, sym, ap, _∙_}
 use mathlib.Core.Bool.{Bool, true, false, cond, not, _&&_}
-use mathlib.Core.Option.{Option, none, some}
+use mathlib.Core.Option.{none, some}
 use mathlib.Core.List.{List, [], _∷_}
-use lib.Dec.{ltb, leb, eqb, eqb·suc-suc}
-use lib.ListN.{length, getD, drop, drop-of-length-le}
+use lib.Dec.{eqb, eqb·suc-suc}
+use lib.ListN.{length, getD, drop}
 use lib.Seq.{getD-drop, drop-drop}
 use borrow.Author.Tests.{le-leb, lt-leb, lt-ltb, le-ltb, eq-eqb, ne-eqb, not-true, not-false}
 use mir.Syntax.{w8}
 use mir.Val.{Fits}
-use Rattle.grammar.specs.Tree.{variable}
-use Rattle.text.specs.Token.{symbol, slot, mark, trueWord, failWord}
-use Rattle.text.specs.Spelling.{isDigit, isWordByte, run, digits, value, valueFrom, indexOf, Found, found, nothing, begins, indexed, keyword, word, constantOf}
+use Rattle.text.specs.Token.{mark, trueWord, failWord}
+use Rattle.text.specs.Spelling.{isDigit, isWordByte, run, digits, value, valueFrom, indexOf, found, nothing, begins, indexed, keyword, word, constantOf}
 use Rattle.text.proofs.Bytes.{no-test, digit-word, digit-low, digit-high, word-some}
 use Rattle.text.proofs.Lexing.{run-some}
 use Rattle.wire.specs.Wire.{byteAt}
 use Rattle.tokens.specs.declared.Token.the-variants.{Symbol, Variable, Mark as CodeMark}
 use Rattle.tokens.specs.declared.Found.{Found as CodeFound}
 use Rattle.tokens.specs.declared.Found.the-variants.{Token as Here, Nothing}
-use Rattle.tokens.specs.Views.{markOf, foundOf, FoundSane, Reads}
+use Rattle.tokens.specs.Views.{markOf, Reads}
 use Rattle.tokens.specs.Names.{letterBy, upTo, namedBy, nameBy}
 use Rattle.tokens.proofs.SignReads.{begins-at, and-true, reads-same, front}
 
