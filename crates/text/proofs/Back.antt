@@ -190,7 +190,8 @@ module _ (rest : List ℕ) (ends : Ends rest) where
   unfolding tokenAt word indexed isWordByte
   symbol-found after k h =
       let all = decimal-digits k (omega arith) in
-      let n : run (115 ∷ (decimal k ++ rest)) ≡ suc (length (decimal k)) = run-some 115 (decimal k ++ rest) refl ∙ ap suc (run-digits rest (decimal k) all ends) in
+      let n : run (115 ∷ (decimal k ++ rest)) ≡ suc (length (decimal k)) =
+      run-some 115 (decimal k ++ rest) refl ∙ ap suc (run-digits rest (decimal k) all ends) in
       let one : suc (length (decimal k)) - 1 ≡ length (decimal k) = omega arith in
       rw (n, one, index-found 31 k h (omega arith))
 
@@ -198,7 +199,8 @@ module _ (rest : List ℕ) (ends : Ends rest) where
   unfolding tokenAt word indexed isWordByte
   variable-found after v h =
       let all = decimal-digits v (omega arith) in
-      let n : run (86 ∷ (decimal v ++ rest)) ≡ suc (length (decimal v)) = run-some 86 (decimal v ++ rest) refl ∙ ap suc (run-digits rest (decimal v) all ends) in
+      let n : run (86 ∷ (decimal v ++ rest)) ≡ suc (length (decimal v)) =
+      run-some 86 (decimal v ++ rest) refl ∙ ap suc (run-digits rest (decimal v) all ends) in
       let one : suc (length (decimal v)) - 1 ≡ length (decimal v) = omega arith in
       rw (n, one, index-found 15 v h (omega arith))
 

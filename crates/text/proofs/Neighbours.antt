@@ -6,7 +6,8 @@ use Rattle.grammar.specs.Tree.{Term, Operation, sum, difference, product, quoti
 use Rattle.grammar.specs.Tree.{fail, RuleTree}
 use Rattle.text.specs.Token.{Token, symbol, slot, compares, operates, mark, Mark, backslash, simplifies, propagates, bar, opens, closes, comma, stop}
 use Rattle.text.specs.Token.{trueWord, failWord}
-use Rattle.text.specs.Text.{moreTokens, listTokens, bracketTokens, eachTokens, termTokens, formulaTokens, headTokens, guardTokens, itemTokens, headsTokens}
+use Rattle.text.specs.Text.{moreTokens, listTokens, bracketTokens, eachTokens, termTokens, formulaTokens, headTokens, guardTokens, itemTokens}
+use Rattle.text.specs.Text.{headsTokens}
 use Rattle.text.specs.Text.{guardsTokens, bodyTokens, ruleTokens}
 
 -- what a token is to its neighbour: a sign, a constant or a variable, or another word

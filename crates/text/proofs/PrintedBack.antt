@@ -17,7 +17,8 @@ use Rattle.text.specs.Tokens.{AllTokens, lexed, tokensIn}
 use Rattle.text.specs.Text.{eachTokens, ruleTokens, declarationTokens, declarationsTokens, textTokens}
 use Rattle.text.specs.Printed.{decimal, termText, symbolText, comparatorText, operationText, markText, tokenText, tokensText, declarationsText, printed}
 use Rattle.text.proofs.Bytes.{no-test}
-use Rattle.text.proofs.Back.{Ends, isWord, Lexes, lexes-end, lexes-blank, lexes-token, comparator-lexes, operation-lexes, mark-lexes, symbol-lexes, slot-lexes}
+use Rattle.text.proofs.Back.{Ends, isWord, Lexes, lexes-end, lexes-blank, lexes-token, comparator-lexes, operation-lexes, mark-lexes}
+use Rattle.text.proofs.Back.{symbol-lexes, slot-lexes}
 use Rattle.text.proofs.Neighbours.{Kind, sign, value, word, markKind, Follows, MayOperate, Flow, rules-flow}
 
 -- whether a token of this kind is a constant or a variable
