@@ -4,18 +4,17 @@ use Prim.Native.Nat.{ℕ, zero, suc, _+_, _-_, _≤_, _<_}
 use native.Mathlib.Nat.{add-zero}
 use native.Mathlib.Numerals.{add-one}
 use native.Mathlib.Omega.{arith}
-use mathlib.Core.Path.{_≡_, refl, sym, ap, subst₂, _∙_}
-use mathlib.Core.Bool.{Bool, true, false, cond, not, _&&_, _||_}
+use mathlib.Core.Path.{_≡_, refl, sym, subst₂}
+use mathlib.Core.Bool.{Bool, true, false, cond, not, _&&_}
 use mathlib.Core.Option.{Option, none, some}
 use mathlib.Core.List.{List, [], _∷_}
 use lib.Dec.{ltb, leb, eqb}
-use lib.IntN.{ℤ, pos, negsuc}
 use lib.ListN.{length, getD, drop, drop-of-length-le}
 use lib.Seq.{drop-cons, drop-drop}
 use borrow.Author.Tests.{leb-true, eqb-true}
 use Rattle.numbers.specs.Laws.{InRange, pos-ranged, negsuc-ranged}
 use Rattle.model.proofs.Every.{every}
-use Rattle.grammar.specs.Tree.{constant, variable}
+use Rattle.grammar.specs.Tree.{variable}
 use Rattle.text.proofs.Bytes.{no-test, and-left, and-right}
 use Rattle.text.specs.Token.{Token, symbol, slot, mark, Mark, trueWord, failWord, isSlot, TokenGood}
 use Rattle.text.specs.Spelling.{isBlank, isWordByte, isDigit, run, digits, value, negative, indexOf, Found, found, nothing, begins, indexed, constantOf}
@@ -84,7 +83,7 @@ index-most most n bs i = go (leb 1 n && (leb n 2 && digits n bs)) (eqb n 2 && lt
     go true false false e f = none-is f
     go false b c e f = none-is f
 
-negative-ranged : (n : ℕ) → n ≤ 2147483648 → InRange (negative n)
+pub negative-ranged : (n : ℕ) → n ≤ 2147483648 → InRange (negative n)
 unfolding negative
 negative-ranged zero h = pos-ranged 0 (omega arith)
 negative-ranged (suc n) h = negsuc-ranged n (omega arith)
@@ -171,33 +170,48 @@ lexed-skip zero after p bs = rw add-zero
 lexed-skip (suc k) after p [] = refl
 lexed-skip (suc k) after p (b ∷ bs) = let e : suc p + k ≡ p + suc k = omega arith in rw (← e) (lexed-skip k after (suc p) bs)
 
+module _ (after : Bool) (p : ℕ) (b : ℕ) (bs : List ℕ) where
+  pub lexed-blank : isBlank b ≡ true → lexedFrom 0 after p (b ∷ bs) ≡ lexedFrom 0 after (suc p) bs
+  unfolding lexedFrom
+  lexed-blank e = rw e
+
+  pub lexed-none : isBlank b ≡ false → tokenAt after (b ∷ bs) ≡ nothing → lexedFrom 0 after p (b ∷ bs) ≡ noToken p
+  unfolding lexedFrom lexedBy
+  lexed-none e f = rw (e, f)
+
+  pub lexed-token : {t : Token} {n : ℕ} → isBlank b ≡ false → tokenAt after (b ∷ bs) ≡ found t n
+      → lexedFrom 0 after p (b ∷ bs) ≡ next p t (lexedFrom 0 (isSlot t) (p + n) (drop n (b ∷ bs)))
+  unfolding lexedFrom lexedBy
+  lexed-token {t} {n} e f = go n (found-length after (b ∷ bs) f .0) f
+    where
+      go : (n : ℕ) → 1 ≤ n → tokenAt after (b ∷ bs) ≡ found t n
+          → lexedFrom 0 after p (b ∷ bs) ≡ next p t (lexedFrom 0 (isSlot t) (p + n) (drop n (b ∷ bs)))
+      go zero h f = absurd (omega arith)
+      go (suc k) h f =
+          let one : suc k - 1 ≡ k = omega arith in
+          let place : suc p + k ≡ p + suc k = omega arith in
+          rw (e, f, one, lexed-skip k (isSlot t) (suc p) bs, place)
+
+-- the same at a place of a text
 module _ (text : List ℕ) (after : Bool) (at : ℕ) where
   pub at-end : length text ≤ at → lexedFrom 0 after at (drop at text) ≡ end
   unfolding lexedFrom
   at-end h = rw (drop-of-length-le text h)
 
   module _ (inside : at < length text) where
-    pub at-blank : isBlank (getD text at 0) ≡ true → lexedFrom 0 after at (drop at text) ≡ lexedFrom 0 after (at + 1) (drop (at + 1) text)
-    unfolding lexedFrom
-    at-blank e = rw (drop-cons text at 0 inside, e, add-one at)
+    front : drop at text ≡ getD text at 0 ∷ drop (suc at) text
+    front = drop-cons text at 0 inside
 
-    at-other : isBlank (getD text at 0) ≡ false
-        → lexedFrom 0 after at (drop at text)
-        ≡ lexedBy at (λ n slot. lexedFrom n slot (suc at) (drop (suc at) text)) (tokenAt after (drop at text))
-    unfolding lexedFrom
-    at-other e = rw (drop-cons text at 0 inside, e)
+    pub at-blank : isBlank (getD text at 0) ≡ true → lexedFrom 0 after at (drop at text) ≡ lexedFrom 0 after (at + 1) (drop (at + 1) text)
+    at-blank e = rw (front, add-one at) (lexed-blank after at (getD text at 0) (drop (suc at) text) e)
 
     pub at-token : {t : Token} {n : ℕ} → isBlank (getD text at 0) ≡ false → tokenAt after (drop at text) ≡ found t n
         → lexedFrom 0 after at (drop at text) ≡ next at t (lexedFrom 0 (isSlot t) (at + n) (drop (at + n) text))
-    unfolding lexedBy
     at-token {t} {n} b e =
-        let some = found-length after (drop at text) e .0 in
-        let place : suc at + (n - 1) ≡ at + n = omega arith in
-        at-other b ∙ rw (e, lexed-skip (n - 1) (isSlot t) (suc at) (drop (suc at) text), drop-drop, place)
+        rw (front, lexed-token after at (getD text at 0) (drop (suc at) text) b (rw front at e), ← front, drop-drop)
 
     pub at-none : isBlank (getD text at 0) ≡ false → tokenAt after (drop at text) ≡ nothing → lexedFrom 0 after at (drop at text) ≡ noToken at
-    unfolding lexedBy
-    at-none b e = at-other b ∙ rw e
+    at-none b e = rw front (lexed-none after at (getD text at 0) (drop (suc at) text) b (rw front at e))
 
 -- ---- every token has a spelling
 

@@ -1,31 +1,28 @@
 -- The loop over digits, and what the digits say: the invariant is that the number said so far and the digits left are those of the whole.
 use Prim.Native.Nat.{ℕ, zero, suc, _+_, _-_, _*_, _≤_, _<_, min}
-use native.Mathlib.Nat.{add-zero}
 use native.Mathlib.Numerals.{add-one}
 use native.Mathlib.Omega.{arith}
-use mathlib.Core.Path.{_≡_, refl, sym, ap, _∙_, subst}
+use mathlib.Core.Path.{_≡_, refl, sym, ap, _∙_}
 use mathlib.Core.Bool.{Bool, true, false, cond, not, _&&_}
 use mathlib.Core.List.{List, [], _∷_}
-use lib.Dec.{leb, eqb}
+use lib.Dec.{leb}
 use lib.IntN.{ℤ, pos, negsuc, _-ℤ_}
 use lib.ListN.{length, getD, drop, drop-of-length-le}
 use lib.Seq.{drop-cons, getD-drop}
-use borrow.Author.Tests.{leb-true, le-leb, lt-leb, not-true, not-false}
+use borrow.Author.Tests.{le-leb, lt-leb, not-true, not-false}
 use mir.Facts.{toZ-pos}
 use mir.Syntax.{w32}
 use mir.Val.{toZ}
 use Rattle.wire.proofs.Machine.{down}
-use Rattle.numbers.specs.Laws.{InRange, pos-ranged, negsuc-ranged}
-use Rattle.grammar.specs.Tree.{constant}
-use Rattle.text.specs.Token.{slot}
-use Rattle.text.specs.Spelling.{isDigit, isWordByte, run, digits, valueFrom, value, negative, Found, found, nothing, constantOf, negated}
+use Rattle.numbers.specs.Laws.{pos-ranged}
+use Rattle.text.specs.Spelling.{isDigit, isWordByte, run, digits, valueFrom, value, negative, Found, nothing, constantOf, negated}
 use Rattle.text.proofs.Bytes.{no-test, digit-word}
-use Rattle.text.proofs.Lexing.{run-some}
+use Rattle.text.proofs.Lexing.{run-some, negative-ranged}
 use Rattle.wire.specs.Wire.{byteAt}
 use Rattle.tokens.specs.declared.numerals.Digits.{Digits}
 use Rattle.tokens.specs.declared.Token.the-variants.{Constant}
 use Rattle.tokens.specs.declared.Found.the-variants.{Token as Here, Nothing}
-use Rattle.tokens.specs.Views.{foundOf, FoundSane, Reads}
+use Rattle.tokens.specs.Views.{Reads}
 use Rattle.tokens.specs.Numerals.{digitRun, tooMuch, Grown, DigitsAt}
 
 -- ---- the loop
@@ -145,11 +142,6 @@ down-is n h l = ap (λ (z : ℤ). negsuc 0 -ℤ z) (toZ-pos w32 {n = n - 1} (ome
 
 pub some-below : (n : ℕ) → 0 < n → n ≤ 2147483648 → negsuc 0 -ℤ toZ w32 (n - 1) ≡ negative n
 some-below n h l = down-is n h l ∙ sym (negative-suc n h)
-
-negative-ranged : (n : ℕ) → n ≤ 2147483648 → InRange (negative n)
-unfolding negative
-negative-ranged zero h = pos-ranged 0 (omega arith)
-negative-ranged (suc n) h = negsuc-ranged n (omega arith)
 
 not-both : (t : Bool) (x : Found) → cond (t && false) x nothing ≡ nothing
 not-both true x = refl

@@ -1,19 +1,18 @@
 -- What is found at a place is the definition's token, by the first byte; and it lies inside the text, as every token that is found does.
-use Prim.Native.Nat.{ℕ, zero, suc, _+_, _≤_, _<_}
+use Prim.Native.Nat.{ℕ, _+_, _<_}
 use native.Mathlib.Omega.{arith}
 use mathlib.Core.Path.{_≡_, refl, sym, _∙_}
 use mathlib.Core.Bool.{Bool, true, false, cond, not, _&&_}
-use mathlib.Core.List.{List, _∷_}
+use mathlib.Core.List.{List}
 use lib.Dec.{eqb}
 use lib.ListN.{length, getD, drop, length-drop}
 use borrow.Author.Tests.{eq-eqb, ne-eqb}
-use Rattle.grammar.specs.Layout.{operationOf}
 use Rattle.text.specs.Spelling.{isWordByte, run, word, negated, signs, signOf, tokenAt}
 use Rattle.text.proofs.Lexing.{found-length}
 use Rattle.tokens.specs.declared.Token.the-variants.{Operates}
 use Rattle.tokens.specs.declared.Found.{Found as CodeFound}
 use Rattle.tokens.specs.declared.Found.the-variants.{Token as Here, Nothing}
-use Rattle.tokens.specs.Views.{tokenOf, foundOf, FoundSane, FoundWithin, Reads, FoundAt}
+use Rattle.tokens.specs.Views.{foundOf, FoundWithin, Reads, FoundAt}
 use Rattle.tokens.proofs.SignReads.{reads-same, front, difference-read}
 
 module _ (text : List ℕ) (at : ℕ) (after : Bool) (inside : at < length text) where

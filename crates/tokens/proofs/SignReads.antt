@@ -1,9 +1,9 @@
 -- What stands at a place of a text, byte by byte, and the sign that it is: the definition computes by the first byte, and what is left is whether
 -- it is followed by `=>`, `<` or `=`.
-use Prim.Native.Nat.{ℕ, zero, suc, _+_, _≤_, _<_}
+use Prim.Native.Nat.{ℕ, zero, suc, _+_, _<_}
 use native.Mathlib.Numerals.{add-one}
 use native.Mathlib.Omega.{arith}
-use mathlib.Core.Path.{_≡_, refl, sym, ap, _∙_}
+use mathlib.Core.Path.{_≡_, refl, sym, _∙_}
 use mathlib.Core.Bool.{Bool, true, false, cond, _&&_}
 use mathlib.Core.List.{List, [], _∷_}
 use lib.Dec.{eqb}
@@ -13,13 +13,13 @@ use borrow.Author.Tests.{eq-eqb, ne-eqb}
 use Rattle.wire.specs.Wire.{byteAt}
 use Rattle.grammar.specs.Tree.{equal, unequal, less, atMost, greater, atLeast}
 use Rattle.grammar.specs.Layout.{comparatorOf, operationOf}
-use Rattle.text.specs.Token.{compares, operates, mark, simplifies, propagates, backslash}
-use Rattle.text.specs.Spelling.{Found, found, nothing, begins, signs, signOf}
+use Rattle.text.specs.Token.{compares, mark, simplifies, propagates, backslash}
+use Rattle.text.specs.Spelling.{Found, found, begins, signs, signOf}
 use Rattle.tokens.specs.declared.Token.{Token as CodeToken}
-use Rattle.tokens.specs.declared.Token.the-variants.{Symbol, Variable, Constant, Compares, Operates, Mark as CodeMark}
+use Rattle.tokens.specs.declared.Token.the-variants.{Compares, Operates, Mark as CodeMark}
 use Rattle.tokens.specs.declared.Found.{Found as CodeFound}
 use Rattle.tokens.specs.declared.Found.the-variants.{Token as Here, Nothing}
-use Rattle.tokens.specs.Views.{markOf, tokenOf, Sane, foundOf, FoundSane, Reads}
+use Rattle.tokens.specs.Views.{markOf, tokenOf, Sane, Reads}
 
 -- ---- bytes at places
 
@@ -174,6 +174,22 @@ module _ (text : List ℕ) (at : ℕ) (inside : at < length text) where
   none-read n60 n61 n62 n92 n124 n40 n41 n44 n46 n43 n45 n42 n47 n37 =
       let b = getD text at 0 in
       record {
-        same = sym (rw (front text at inside refl, ne-eqb b 60 n60, ne-eqb b 61 n61, ne-eqb b 92 n92, ne-eqb b 62 n62, ne-eqb b 124 n124, ne-eqb b 43 n43, ne-eqb b 45 n45, ne-eqb b 42 n42, ne-eqb b 47 n47, ne-eqb b 37 n37, ne-eqb b 40 n40, ne-eqb b 41 n41, ne-eqb b 44 n44, ne-eqb b 46 n46));
+        same = sym (rw (
+          front text at inside refl,
+          ne-eqb b 60 n60,
+          ne-eqb b 61 n61,
+          ne-eqb b 92 n92,
+          ne-eqb b 62 n62,
+          ne-eqb b 124 n124,
+          ne-eqb b 43 n43,
+          ne-eqb b 45 n45,
+          ne-eqb b 42 n42,
+          ne-eqb b 47 n47,
+          ne-eqb b 37 n37,
+          ne-eqb b 40 n40,
+          ne-eqb b 41 n41,
+          ne-eqb b 44 n44,
+          ne-eqb b 46 n46,
+        ));
         sane = tt;
       }

@@ -1,30 +1,32 @@
 -- Words as the code reads them, byte by byte: the index behind `s` or `V` is one digit or two and the run ends there; `true` and `fail` likewise.
 -- By the cases of the first bytes.
 use Prim.Native.Nat.{ℕ, zero, suc, _+_, _-_, _*_, _≤_, _<_}
-use native.Mathlib.Numerals.{add-one}
 use native.Mathlib.Omega.{arith}
 use mathlib.Core.Path.{_≡_, refl, sym, ap, _∙_}
 use mathlib.Core.Bool.{Bool, true, false, cond, not, _&&_}
-use mathlib.Core.Option.{Option, none, some}
+use mathlib.Core.Option.{none, some}
 use mathlib.Core.List.{List, [], _∷_}
-use lib.Dec.{ltb, leb, eqb, eqb·suc-suc}
-use lib.ListN.{length, getD, drop, drop-of-length-le}
+use lib.Dec.{eqb, eqb·suc-suc}
+use lib.ListN.{length, getD, drop}
 use lib.Seq.{getD-drop, drop-drop}
 use borrow.Author.Tests.{le-leb, lt-leb, lt-ltb, le-ltb, eq-eqb, ne-eqb, not-true, not-false}
 use mir.Syntax.{w8}
 use mir.Val.{Fits}
-use Rattle.grammar.specs.Tree.{variable}
-use Rattle.text.specs.Token.{symbol, slot, mark, trueWord, failWord}
-use Rattle.text.specs.Spelling.{isDigit, isWordByte, run, digits, value, valueFrom, indexOf, Found, found, nothing, begins, indexed, keyword, word, constantOf}
+use Rattle.text.specs.Token.{mark, trueWord, failWord}
+use Rattle.text.specs.Spelling.{isDigit, isWordByte, run, digits, value, valueFrom, indexOf, found, nothing, begins, indexed, keyword, word, constantOf}
 use Rattle.text.proofs.Bytes.{no-test, digit-word, digit-low, digit-high, word-some}
 use Rattle.text.proofs.Lexing.{run-some}
 use Rattle.wire.specs.Wire.{byteAt}
 use Rattle.tokens.specs.declared.Token.the-variants.{Symbol, Variable, Mark as CodeMark}
 use Rattle.tokens.specs.declared.Found.{Found as CodeFound}
 use Rattle.tokens.specs.declared.Found.the-variants.{Token as Here, Nothing}
-use Rattle.tokens.specs.Views.{markOf, foundOf, FoundSane, Reads}
+use Rattle.tokens.specs.Views.{markOf, Reads}
 use Rattle.tokens.specs.Names.{letterBy, upTo, namedBy, nameBy}
 use Rattle.tokens.proofs.SignReads.{begins-at, and-true, reads-same, front}
+
+-- the bytes behind a place
+abbrev behind : List ℕ → ℕ → List ℕ
+behind text at = drop (at + 1) text
 
 -- ---- an index and its letter
 
@@ -149,77 +151,79 @@ name-same letter rest n i e h = rw (e, h 31, h 15)
 
 -- the bytes behind a place, as the code reads them
 module _ (text : List ℕ) (at : ℕ) (letter : ℕ) {a : ℕ} (first : a ≡ byteAt text (at + 1)) where
-  byte-0 : getD (drop (at + 1) text) 0 0 ≡ a
+  byte-0 : getD (behind text at) 0 0 ≡ a
   byte-0 = getD-drop (at + 1) text 0 0 ∙ (let e : at + 1 + 0 ≡ at + 1 = omega arith in rw e (sym first))
 
-  pub name-no-digit : {q : Bool} → q ≡ isDigit a → not q ≡ true → Reads (nameBy letter (drop (at + 1) text)) Nothing
+  pub name-no-digit : {q : Bool} → q ≡ isDigit a → not q ≡ true → Reads (nameBy letter (behind text at)) Nothing
   name-no-digit e t =
-      name-none letter (drop (at + 1) text) (λ most. index-no-first most (run (drop (at + 1) text)) (drop (at + 1) text) (rw byte-0 (sym e ∙ not-true _ t)))
+      name-none letter (behind text at) (λ most. index-no-first most (run (behind text at)) (behind text at) (rw byte-0 (sym e ∙ not-true _ t)))
 
   module _ {q : Bool} (digit : q ≡ isDigit a) (is : not q ≡ false) {b : ℕ} (second : b ≡ byteAt text (at + 2)) {w : Bool} (word : w ≡ isWordByte b) where
-    digit-0 : isDigit (getD (drop (at + 1) text) 0 0) ≡ true
+    digit-0 : isDigit (getD (behind text at) 0 0) ≡ true
     digit-0 = rw byte-0 (sym digit ∙ not-false _ is)
 
-    byte-1 : getD (drop (at + 1) text) 1 0 ≡ b
+    byte-1 : getD (behind text at) 1 0 ≡ b
     byte-1 = getD-drop (at + 1) text 1 0 ∙ (let e : at + 1 + 1 ≡ at + 2 = omega arith in rw e (sym second))
 
-    run-1 : run (drop (at + 1) text) ≡ suc (run (drop 1 (drop (at + 1) text)))
-    run-1 = run-on (drop (at + 1) text) (digit-word _ digit-0)
+    run-1 : run (behind text at) ≡ suc (run (drop 1 (behind text at)))
+    run-1 = run-on (behind text at) (digit-word _ digit-0)
 
-    word-1 : isWordByte (getD (drop 1 (drop (at + 1) text)) 0 0) ≡ w
-    word-1 = rw (getD-drop 1 (drop (at + 1) text) 0 0, byte-1) (sym word)
+    word-1 : isWordByte (getD (drop 1 (behind text at)) 0 0) ≡ w
+    word-1 = rw (getD-drop 1 (behind text at) 0 0, byte-1) (sym word)
 
-    pub name-one : {r : CodeFound} → not w ≡ true → Reads (namedBy letter 2 (a - 48)) r → Reads (nameBy letter (drop (at + 1) text)) r
+    pub name-one : {r : CodeFound} → not w ≡ true → Reads (namedBy letter 2 (a - 48)) r → Reads (nameBy letter (behind text at)) r
     name-one t h =
-        let n : run (drop (at + 1) text) ≡ 1 = run-1 ∙ ap suc (run-off (drop 1 (drop (at + 1) text)) (word-1 ∙ not-true _ t)) in
-        let same : (most : ℕ) → indexOf most 1 (drop (at + 1) text) ≡ upTo most (a - 48) =
-        λ most. index-one most (drop (at + 1) text) digit-0 ∙ rw byte-0 in
-        reads-same (name-same letter (drop (at + 1) text) 1 (a - 48) n same) h
+        let n : run (behind text at) ≡ 1 = run-1 ∙ ap suc (run-off (drop 1 (behind text at)) (word-1 ∙ not-true _ t)) in
+        let same : (most : ℕ) → indexOf most 1 (behind text at) ≡ upTo most (a - 48) =
+        λ most. index-one most (behind text at) digit-0 ∙ rw byte-0 in
+        reads-same (name-same letter (behind text at) 1 (a - 48) n same) h
 
     -- a second byte of the run
     module _ (more : not w ≡ false) where
-      run-2 : run (drop (at + 1) text) ≡ suc (suc (run (drop 2 (drop (at + 1) text))))
-      run-2 = run-1 ∙ ap suc (run-on (drop 1 (drop (at + 1) text)) (word-1 ∙ not-false _ more) ∙ ap (λ l. suc (run l)) (drop-drop 1 1 (drop (at + 1) text)))
+      run-2 : run (behind text at) ≡ suc (suc (run (drop 2 (behind text at))))
+      run-2 = run-1 ∙ ap suc (run-on (drop 1 (behind text at)) (word-1 ∙ not-false _ more) ∙ ap (λ l. suc (run l)) (drop-drop 1 1 (behind text at)))
 
-      pub name-letter : {s : Bool} → s ≡ isDigit b → not s ≡ true → Reads (nameBy letter (drop (at + 1) text)) Nothing
+      pub name-letter : {s : Bool} → s ≡ isDigit b → not s ≡ true → Reads (nameBy letter (behind text at)) Nothing
       name-letter e t =
-          name-none letter (drop (at + 1) text) (λ most. no-digits most _ _
-          (rw run-2 (digits-no-second (run (drop 2 (drop (at + 1) text))) (drop (at + 1) text) (rw byte-1 (sym e ∙ not-true _ t)))))
+          name-none letter (behind text at) (λ most. no-digits most _ _
+          (rw run-2 (digits-no-second (run (drop 2 (behind text at))) (behind text at) (rw byte-1 (sym e ∙ not-true _ t)))))
 
       module _ {s : Bool} (digit′ : s ≡ isDigit b) (is′ : not s ≡ false) {x : ℕ} (third : x ≡ byteAt text (at + 3)) {v : Bool} (word′ : v ≡ isWordByte x) where
-        digit-1 : isDigit (getD (drop (at + 1) text) 1 0) ≡ true
+        digit-1 : isDigit (getD (behind text at) 1 0) ≡ true
         digit-1 = rw byte-1 (sym digit′ ∙ not-false _ is′)
 
-        word-2 : isWordByte (getD (drop 2 (drop (at + 1) text)) 0 0) ≡ v
+        word-2 : isWordByte (getD (drop 2 (behind text at)) 0 0) ≡ v
         word-2 =
             let e : at + 1 + 2 ≡ at + 3 = omega arith in
-            rw (getD-drop 2 (drop (at + 1) text) 0 0, getD-drop (at + 1) text 2 0, e, ← third) (sym word′)
+            rw (getD-drop 2 (behind text at) 0 0, getD-drop (at + 1) text 2 0, e, ← third) (sym word′)
 
-        pub name-long : v ≡ true → Reads (nameBy letter (drop (at + 1) text)) Nothing
+        pub name-long : v ≡ true → Reads (nameBy letter (behind text at)) Nothing
         name-long t =
-            let n = run-2 ∙ ap (λ k. suc (suc k)) (run-on (drop 2 (drop (at + 1) text)) (word-2 ∙ t)) in
-            name-none letter (drop (at + 1) text) (λ most. too-long most _ _ (omega (arith, n)))
+            let n = run-2 ∙ ap (λ k. suc (suc k)) (run-on (drop 2 (behind text at)) (word-2 ∙ t)) in
+            name-none letter (behind text at) (λ most. too-long most _ _ (omega (arith, n)))
 
         module _ (ends : v ≡ false) where
-          two : run (drop (at + 1) text) ≡ 2
-          two = run-2 ∙ ap (λ k. suc (suc k)) (run-off (drop 2 (drop (at + 1) text)) (word-2 ∙ ends))
+          two : run (behind text at) ≡ 2
+          two = run-2 ∙ ap (λ k. suc (suc k)) (run-off (drop 2 (behind text at)) (word-2 ∙ ends))
 
-          pub name-zero : a - 48 ≡ 0 → Reads (nameBy letter (drop (at + 1) text)) Nothing
+          pub name-zero : a - 48 ≡ 0 → Reads (nameBy letter (behind text at)) Nothing
           name-zero e =
-              name-none letter (drop (at + 1) text) (λ most. rw two (index-zero most (drop (at + 1) text) digit-0 digit-1 (byte-0 ∙ (let low = told-low a digit is in omega arith))))
+              let zero : a ≡ 48 = let low = told-low a digit is in omega arith in
+              name-none letter (behind text at) (λ most. rw two (index-zero most (behind text at) digit-0 digit-1 (byte-0 ∙ zero)))
 
-          pub name-two : {r : CodeFound} → (a - 48 ≡ 0 → ⊥) → Reads (namedBy letter 3 (10 * (a - 48) + (b - 48))) r → Reads (nameBy letter (drop (at + 1) text)) r
+          pub name-two : {r : CodeFound} → (a - 48 ≡ 0 → ⊥) → Reads (namedBy letter 3 (10 * (a - 48) + (b - 48))) r → Reads (nameBy letter (behind text at)) r
           name-two e h =
-              let some : getD (drop (at + 1) text) 0 0 ≡ 48 → ⊥ = λ (z : getD (drop (at + 1) text) 0 0 ≡ 48). e (let y : a ≡ 48 = sym byte-0 ∙ z in omega arith) in
-              let same : (most : ℕ) → indexOf most 2 (drop (at + 1) text) ≡ upTo most (10 * (a - 48) + (b - 48)) =
-              λ most. index-two most (drop (at + 1) text) digit-0 digit-1 some ∙ rw (byte-0, byte-1) in
-              reads-same (name-same letter (drop (at + 1) text) 2 (10 * (a - 48) + (b - 48)) two same) h
+              let some : getD (behind text at) 0 0 ≡ 48 → ⊥ =
+              λ (z : getD (behind text at) 0 0 ≡ 48). e (let y : a ≡ 48 = sym byte-0 ∙ z in omega arith) in
+              let same : (most : ℕ) → indexOf most 2 (behind text at) ≡ upTo most (10 * (a - 48) + (b - 48)) =
+              λ most. index-two most (behind text at) digit-0 digit-1 some ∙ rw (byte-0, byte-1) in
+              reads-same (name-same letter (behind text at) 2 (10 * (a - 48) + (b - 48)) two same) h
 
 -- ---- `true` and `fail`
 
 module _ (text : List ℕ) (at : ℕ) (second third fourth : ℕ) (p : isWordByte second ≡ true) (q : isWordByte third ≡ true) (r : isWordByte fourth ≡ true)
     {a : ℕ} (is-a : a ≡ byteAt text (at + 1)) where
-  spelled : begins (second ∷ third ∷ fourth ∷ []) (drop (at + 1) text)
+  spelled : begins (second ∷ third ∷ fourth ∷ []) (behind text at)
       ≡ (eqb a second && (eqb (getD text (at + 2) 0) third && (eqb (getD text (at + 3) 0) fourth && true)))
   unfolding begins
   spelled =
@@ -229,19 +233,19 @@ module _ (text : List ℕ) (at : ℕ) (second third fourth : ℕ) (p : isWordByt
       ∙ rw (← is-a, e₁) (ap (λ t. eqb a second && t) (begins-at third (fourth ∷ []) text (at + 2) (omega (arith, word-some third q))
       ∙ rw e₂ (ap (λ t. eqb (getD text (at + 2) 0) third && t) (begins-at fourth [] text (at + 3) (omega (arith, word-some fourth r))))))
 
-  pub second-not : (a ≡ second → ⊥) → false ≡ (eqb (run (drop (at + 1) text)) 3 && begins (second ∷ third ∷ fourth ∷ []) (drop (at + 1) text))
+  pub second-not : (a ≡ second → ⊥) → false ≡ (eqb (run (behind text at)) 3 && begins (second ∷ third ∷ fourth ∷ []) (behind text at))
   second-not n = sym (rw (spelled, ne-eqb a second n, and-false))
 
   module _ (a-is : a ≡ second) {b : ℕ} (is-b : b ≡ byteAt text (at + 2)) where
-    pub third-not : (b ≡ third → ⊥) → false ≡ (eqb (run (drop (at + 1) text)) 3 && begins (second ∷ third ∷ fourth ∷ []) (drop (at + 1) text))
+    pub third-not : (b ≡ third → ⊥) → false ≡ (eqb (run (behind text at)) 3 && begins (second ∷ third ∷ fourth ∷ []) (behind text at))
     third-not n = sym (rw (spelled, ← is-b, ne-eqb b third n, and-false, and-false))
 
     module _ (b-is : b ≡ third) {d : ℕ} (is-d : d ≡ byteAt text (at + 3)) where
-      pub fourth-not : (d ≡ fourth → ⊥) → false ≡ (eqb (run (drop (at + 1) text)) 3 && begins (second ∷ third ∷ fourth ∷ []) (drop (at + 1) text))
+      pub fourth-not : (d ≡ fourth → ⊥) → false ≡ (eqb (run (behind text at)) 3 && begins (second ∷ third ∷ fourth ∷ []) (behind text at))
       fourth-not n = sym (rw (spelled, ← is-d, ne-eqb d fourth n, and-false, and-false, and-false))
 
       module _ (d-is : d ≡ fourth) {x : ℕ} (is-x : x ≡ byteAt text (at + 4)) {w : Bool} (word : w ≡ isWordByte x) where
-        three-on : run (drop (at + 1) text) ≡ suc (suc (suc (run (drop (at + 4) text))))
+        three-on : run (behind text at) ≡ suc (suc (suc (run (drop (at + 4) text))))
         three-on =
             let e₂ : at + 1 + 1 ≡ at + 2 = omega arith in
             let e₃ : at + 2 + 1 ≡ at + 3 = omega arith in
@@ -254,7 +258,7 @@ module _ (text : List ℕ) (at : ℕ) (second third fourth : ℕ) (p : isWordByt
                 let z : i + 0 ≡ i = omega arith in
                 run-on (drop i text) (rw (getD-drop i text 0 0, z) e) ∙ rw (drop-drop 1 i text)
 
-        pub all-four : not w ≡ (eqb (run (drop (at + 1) text)) 3 && begins (second ∷ third ∷ fourth ∷ []) (drop (at + 1) text))
+        pub all-four : not w ≡ (eqb (run (behind text at)) 3 && begins (second ∷ third ∷ fourth ∷ []) (behind text at))
         all-four =
             let z : at + 4 + 0 ≡ at + 4 = omega arith in
             let last : isWordByte (getD (drop (at + 4) text) 0 0) ≡ w = rw (getD-drop (at + 4) text 0 0, z, ← is-x) (sym word) in
@@ -264,21 +268,21 @@ module _ (text : List ℕ) (at : ℕ) (second third fourth : ℕ) (p : isWordByt
 -- ---- keywords
 
 module _ (text : List ℕ) (at : ℕ) (inside : at < length text) (letter : isWordByte (getD text at 0) ≡ true) where
-  run-at : run (drop at text) ≡ suc (run (drop (at + 1) text))
-  run-at = rw (front text at inside refl) (run-some (getD text at 0) (drop (at + 1) text) letter)
+  run-at : run (drop at text) ≡ suc (run (behind text at))
+  run-at = rw (front text at inside refl) (run-some (getD text at 0) (behind text at) letter)
 
   spells : (b : ℕ) (ss : List ℕ) → (eqb (run (drop at text)) 4 && begins (b ∷ ss) (drop at text))
-      ≡ (eqb (run (drop (at + 1) text)) 3 && (eqb (getD text at 0) b && begins ss (drop (at + 1) text)))
+      ≡ (eqb (run (behind text at)) 3 && (eqb (getD text at 0) b && begins ss (behind text at)))
   unfolding begins
-  spells b ss = rw (run-at, front text at inside refl, eqb·suc-suc (run (drop (at + 1) text)) 3)
+  spells b ss = rw (run-at, front text at inside refl, eqb·suc-suc (run (behind text at)) 3)
 
   keyword-is : keyword (run (drop at text)) (drop at text)
-      ≡ cond (eqb (run (drop (at + 1) text)) 3 && (eqb (getD text at 0) 116 && begins (114 ∷ 117 ∷ 101 ∷ []) (drop (at + 1) text))) (found (mark trueWord) 4)
-      (cond (eqb (run (drop (at + 1) text)) 3 && (eqb (getD text at 0) 102 && begins (97 ∷ 105 ∷ 108 ∷ []) (drop (at + 1) text))) (found (mark failWord) 4) nothing)
+      ≡ cond (eqb (run (behind text at)) 3 && (eqb (getD text at 0) 116 && begins (114 ∷ 117 ∷ 101 ∷ []) (behind text at))) (found (mark trueWord) 4)
+      (cond (eqb (run (behind text at)) 3 && (eqb (getD text at 0) 102 && begins (97 ∷ 105 ∷ 108 ∷ []) (behind text at))) (found (mark failWord) 4) nothing)
   unfolding keyword
   keyword-is = rw (spells 116 (114 ∷ 117 ∷ 101 ∷ []), spells 102 (97 ∷ 105 ∷ 108 ∷ []))
 
-  module _ (first : getD text at 0 ≡ 116) {q : Bool} (is : q ≡ (eqb (run (drop (at + 1) text)) 3 && begins (114 ∷ 117 ∷ 101 ∷ []) (drop (at + 1) text))) where
+  module _ (first : getD text at 0 ≡ 116) {q : Bool} (is : q ≡ (eqb (run (behind text at)) 3 && begins (114 ∷ 117 ∷ 101 ∷ []) (behind text at))) where
     pub true-read : q ≡ true → Reads (keyword (run (drop at text)) (drop at text)) (Here (CodeMark 8) 4)
     unfolding markOf
     true-read t = record { same = sym (keyword-is ∙ rw (first, ← is, t)); sane = omega arith }
@@ -286,7 +290,7 @@ module _ (text : List ℕ) (at : ℕ) (inside : at < length text) (letter : isWo
     pub true-not : q ≡ false → Reads (keyword (run (drop at text)) (drop at text)) Nothing
     true-not t = record { same = sym (keyword-is ∙ rw (first, ← is, t, and-false)); sane = tt }
 
-  module _ (first : getD text at 0 ≡ 102) {q : Bool} (is : q ≡ (eqb (run (drop (at + 1) text)) 3 && begins (97 ∷ 105 ∷ 108 ∷ []) (drop (at + 1) text))) where
+  module _ (first : getD text at 0 ≡ 102) {q : Bool} (is : q ≡ (eqb (run (behind text at)) 3 && begins (97 ∷ 105 ∷ 108 ∷ []) (behind text at))) where
     pub fail-read : q ≡ true → Reads (keyword (run (drop at text)) (drop at text)) (Here (CodeMark 9) 4)
     unfolding markOf
     fail-read t = record { same = sym (keyword-is ∙ rw (first, and-false, ← is, t)); sane = omega arith }
@@ -300,20 +304,20 @@ module _ (text : List ℕ) (at : ℕ) (inside : at < length text) (letter : isWo
   -- ---- words
 
   word-is : word (run (drop at text)) (drop at text)
-      ≡ cond (eqb (getD text at 0) 115) (nameBy 115 (drop (at + 1) text))
-      (cond (eqb (getD text at 0) 86) (nameBy 86 (drop (at + 1) text))
+      ≡ cond (eqb (getD text at 0) 115) (nameBy 115 (behind text at))
+      (cond (eqb (getD text at 0) 86) (nameBy 86 (behind text at))
       (cond (isDigit (getD text at 0)) (constantOf (run (drop at text)) (drop at text)) (keyword (run (drop at text)) (drop at text))))
   unfolding word nameBy letterBy
   word-is =
-      let less : suc (run (drop (at + 1) text)) - 1 ≡ run (drop (at + 1) text) = omega arith in
-      rw (front text at inside refl, run-some (getD text at 0) (drop (at + 1) text) letter, less)
+      let less : suc (run (behind text at)) - 1 ≡ run (behind text at) = omega arith in
+      rw (front text at inside refl, run-some (getD text at 0) (behind text at) letter, less)
 
   module _ {r : CodeFound} where
-    pub word-symbol : getD text at 0 ≡ 115 → Reads (nameBy (getD text at 0) (drop (at + 1) text)) r → Reads (word (run (drop at text)) (drop at text)) r
+    pub word-symbol : getD text at 0 ≡ 115 → Reads (nameBy (getD text at 0) (behind text at)) r → Reads (word (run (drop at text)) (drop at text)) r
     word-symbol e h = reads-same (word-is ∙ rw e) h
 
     module _ (no-symbol : getD text at 0 ≡ 115 → ⊥) where
-      pub word-variable : getD text at 0 ≡ 86 → Reads (nameBy (getD text at 0) (drop (at + 1) text)) r → Reads (word (run (drop at text)) (drop at text)) r
+      pub word-variable : getD text at 0 ≡ 86 → Reads (nameBy (getD text at 0) (behind text at)) r → Reads (word (run (drop at text)) (drop at text)) r
       word-variable e h = reads-same (word-is ∙ rw e) h
 
       module _ (no-variable : getD text at 0 ≡ 86 → ⊥) {q : Bool} (digit : q ≡ isDigit (getD text at 0)) where

@@ -65,10 +65,10 @@ pub fn constant_at(text: &[u8], at: usize) -> Found
     if bytes::is_word_byte(wire::byte(text, end)) {
         return Found::Nothing;
     }
-    if MOST <= value {
-        return Found::Nothing;
+    if value < MOST {
+        return Found::Token(Token::Constant(value as i32), end - at);
     }
-    Found::Token(Token::Constant(value as i32), end - at)
+    Found::Nothing
 }
 
 // The number of a magnitude, below zero. Counted down from -1, no step leaves 32 bits.

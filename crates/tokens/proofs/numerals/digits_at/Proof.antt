@@ -1,6 +1,5 @@
 -- `numerals::digits_at` meets its contract. The invariant: what the digits passed say and the digits left are those of the whole.
 use Prim.Native.Nat.{_-_}
-use borrow.Author.Tests.{not-false}
 use borrow.Author.Needs.{needs}
 use native.Mathlib.Omega.{arith}
 use lib.ListN.{length}

@@ -27,6 +27,8 @@ named-at-spec =
     (λ c. search (name-long, needs))
     (λ c. search (name-zero, needs))
     (λ c. search (tens-fit, needs))
-    (λ c. let s = c .before .before .before .before in index-fits _ (s .before .before .before .before .before .before .is-digit .ensures) (s .before .before .before .before .before .if1 .left) _ (s .before .is-digit2 .ensures) (s .if3 .left))
+    (λ c. let s = c .before .before .before .before in
+    index-fits _ (s .before .before .before .before .before .before .is-digit .ensures) (s .before .before .before .before .before .if1 .left)
+    _ (s .before .is-digit2 .ensures) (s .if3 .left))
     (λ c κs. search needs)
     (λ c. search (name-two, needs)))
