@@ -49,6 +49,12 @@ whole-copied a s e = e ∙ ap (λ (x : List ℕ). x ++ drop (length a) s) (all-o
 
 -- ---- what is in the room
 
+pub front-long : (e : ℕ) (a : List ℕ) → e ≤ length a → e ≡ length (take e a)
+front-long e a h = omega (arith, length-take e a)
+
+pub front-fits : (e : ℕ) (a s : List ℕ) → e ≤ length s → length (take e a) ≤ length s
+front-fits e a s h = omega (arith, length-take e a)
+
 module _ {a t : List ℕ} (held : Held a t) where
   -- a front of both
   same-front : (n : ℕ) → n ≤ length a → n ≤ length t → take n a ≡ take n t

@@ -83,14 +83,14 @@ fn give(assembled: &[u8], n: usize, table: &mut [u8]) -> TextRead
         return refused(51, 0);
     }
     let end = in_room(n);
-    let result = table::check(&assembled[0..end]);
+    let result = table::check(&assembled[..end]);
     if result.number != 0 {
         return TextRead {
             result: result,
             length: 0,
         };
     }
-    write(&assembled[0..end], table);
+    write(&assembled[..end], table);
     TextRead {
         result: result,
         length: end as u32,
