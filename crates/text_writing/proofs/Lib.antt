@@ -1,0 +1,4 @@
+-- What holds of writing: texts one behind the other, and the text of each part.
+pub mod Writes
+pub mod Decimal
+pub mod Spelled

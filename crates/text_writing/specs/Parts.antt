@@ -1,0 +1,111 @@
+-- The text of each part of a rule: the bytes that its tokens print (Rattle.text.specs.Printed), with no tokens in between.
+use Prim.Native.Nat.{ℕ, zero, suc, _+_}
+use mathlib.Core.Path.{_≡_}
+use mathlib.Core.Bool.{Bool, true, false}
+use mathlib.Core.List.{List, [], _∷_, _++_, map}
+use Rattle.model.specs.declared.Slot.{Slot}
+use Rattle.model.specs.declared.Expression.{Expression}
+use Rattle.model.specs.Table.{Guard}
+use Rattle.grammar.specs.Tree.{Formula, alone, applied, HeadTree, GuardTree, ItemTree, fact, fail, RuleTree}
+use Rattle.grammar.specs.Layout.{termsIn, formulasIn}
+use Rattle.text.specs.Token.{backslash, simplifies, propagates, bar, comma, stop, trueWord, failWord}
+use Rattle.text.specs.Printed.{termText, symbolText, comparatorText, operationText, markText}
+
+-- ---- lists of texts
+
+-- { "," x }
+unfoldable pub moreText : List (List ℕ) → List ℕ
+moreText [] = []
+moreText (x ∷ xs) = markText comma ++ (x ++ moreText xs)
+
+-- x { "," x }
+unfoldable pub listText : List (List ℕ) → List ℕ
+listText [] = []
+listText (x ∷ xs) = x ++ moreText xs
+
+-- "(" x { "," x }
+unfoldable pub openText : List (List ℕ) → List ℕ
+openText [] = []
+openText (x ∷ xs) = 40 ∷ (x ++ moreText xs)
+
+-- ")"
+unfoldable pub closeText : List (List ℕ) → List ℕ
+closeText [] = []
+closeText (x ∷ xs) = 41 ∷ []
+
+-- [ "(" x { "," x } ")" ]
+unfoldable pub bracketText : List (List ℕ) → List ℕ
+bracketText xs = openText xs ++ closeText xs
+
+-- x*
+unfoldable pub eachText : List (List ℕ) → List ℕ
+eachText [] = []
+eachText (x ∷ xs) = x ++ eachText xs
+
+-- ---- one more argument, of a place that is used or not
+
+-- whether there is any
+unfoldable pub some : List (List ℕ) → Bool
+some [] = false
+some (x ∷ xs) = true
+
+-- the first
+unfoldable pub firstText : List (List ℕ) → List ℕ
+firstText [] = []
+firstText (x ∷ xs) = x
+
+-- what stands before it: it opens the brackets, or it follows another
+unfoldable pub separatorText : Bool → List ℕ
+separatorText true = 40 ∷ []
+separatorText false = markText comma
+
+unfoldable pub argumentText : Bool → List (List ℕ) → List ℕ
+argumentText first [] = []
+argumentText first (x ∷ xs) = separatorText first ++ x
+
+-- ---- expressions
+
+unfoldable pub formulaText : Formula → List ℕ
+formulaText (alone a) = termText a
+formulaText (applied o a b) = termText a ++ (operationText o ++ termText b)
+
+-- the text of a place, if it is used
+unfoldable pub slotTexts : Slot → List (List ℕ)
+slotTexts s = map termText (termsIn s)
+
+unfoldable pub expressionTexts : Expression → List (List ℕ)
+expressionTexts e = map formulaText (formulasIn e)
+
+-- both sides of a comparison are used
+pub record BothUsed (g : Guard) : Type 0 where
+  pub left : some (expressionTexts (g .left)) ≡ true
+  pub right : some (expressionTexts (g .right)) ≡ true
+
+-- ---- the parts of a rule
+
+unfoldable pub headText : HeadTree → List ℕ
+headText h = symbolText (h .symbol) ++ bracketText (map termText (h .terms))
+
+unfoldable pub guardText : GuardTree → List ℕ
+guardText g = formulaText (g .left) ++ (comparatorText (g .comparator) ++ formulaText (g .right))
+
+unfoldable pub itemText : ItemTree → List ℕ
+itemText (fact s es) = symbolText s ++ bracketText (map formulaText es)
+itemText fail = markText failWord
+
+unfoldable pub headsText : List HeadTree → List HeadTree → List ℕ
+headsText [] removed = listText (map headText removed) ++ markText simplifies
+headsText (k ∷ kept) [] = listText (map headText (k ∷ kept)) ++ markText propagates
+headsText (k ∷ kept) (r ∷ removed) =
+    listText (map headText (k ∷ kept)) ++ (markText backslash ++ (listText (map headText (r ∷ removed)) ++ markText simplifies))
+
+unfoldable pub guardsText : List GuardTree → List ℕ
+guardsText [] = []
+guardsText (g ∷ gs) = listText (map guardText (g ∷ gs)) ++ markText bar
+
+unfoldable pub bodyText : List ItemTree → List ℕ
+bodyText [] = markText trueWord
+bodyText (i ∷ is) = listText (map itemText (i ∷ is))
+
+unfoldable pub ruleText : RuleTree → List ℕ
+ruleText r = headsText (r .kept) (r .removed) ++ (guardsText (r .guards) ++ (bodyText (r .items) ++ markText stop))
