@@ -2,3 +2,5 @@
 pub mod Writes
 pub mod Decimal
 pub mod Spelled
+pub mod Bracketed
+pub mod Pieces

@@ -5,6 +5,7 @@ use mathlib.Core.Bool.{Bool, true, false}
 use mathlib.Core.List.{List, [], _∷_, _++_, map}
 use Rattle.model.specs.declared.Slot.{Slot}
 use Rattle.model.specs.declared.Expression.{Expression}
+use Rattle.model.specs.Slots.{expressionAt}
 use Rattle.model.specs.Table.{Guard}
 use Rattle.grammar.specs.Tree.{Formula, alone, applied, HeadTree, GuardTree, ItemTree, fact, fail, RuleTree}
 use Rattle.grammar.specs.Layout.{termsIn, formulasIn}
@@ -63,6 +64,11 @@ unfoldable pub argumentText : Bool → List (List ℕ) → List ℕ
 argumentText first [] = []
 argumentText first (x ∷ xs) = separatorText first ++ x
 
+-- what stands behind the last one, where there is any
+unfoldable pub closedText : Bool → List ℕ
+closedText true = []
+closedText false = 41 ∷ []
+
 -- ---- expressions
 
 unfoldable pub formulaText : Formula → List ℕ
@@ -75,6 +81,10 @@ slotTexts s = map termText (termsIn s)
 
 unfoldable pub expressionTexts : Expression → List (List ℕ)
 expressionTexts e = map formulaText (formulasIn e)
+
+-- the arguments of the body fact at p
+abbrev pub argumentsAt : List ℕ → ℕ → List Expression
+argumentsAt t p = expressionAt t (p + 2) ∷ expressionAt t (p + 13) ∷ expressionAt t (p + 24) ∷ expressionAt t (p + 35) ∷ []
 
 -- both sides of a comparison are used
 pub record BothUsed (g : Guard) : Type 0 where

@@ -44,7 +44,7 @@ fn put_constant(text: &mut [u8], at: usize, v: i32) -> usize
 }
 
 // A slot; nothing where it is not used.
-fn put_slot(text: &mut [u8], at: usize, slot: Slot) -> usize
+pub fn put_slot(text: &mut [u8], at: usize, slot: Slot) -> usize
     requires { ⌜ at + 11 ≤ longestText ⌝ }
     ensures { λ r. ⌜ Put (now (text .entry)) at (firstText (slotTexts slot)) 11 (now (text .exit)) r ⌝ }
 {
@@ -56,7 +56,7 @@ fn put_slot(text: &mut [u8], at: usize, slot: Slot) -> usize
     }
 }
 
-fn slot_used(slot: Slot) -> bool
+pub fn slot_used(slot: Slot) -> bool
     ensures { λ r. ⌜ r ≡ some (slotTexts slot) ⌝ }
 {
     match slot {
@@ -90,8 +90,8 @@ fn put_operation(text: &mut [u8], at: usize, operation: u8) -> usize
 }
 
 // "comparators `= \= < =< > >=`"
-fn put_comparator(text: &mut [u8], at: usize, comparator: u8) -> usize
-    requires { ⌜ at + 5 ≤ longestText ⌝ }
+pub fn put_comparator(text: &mut [u8], at: usize, comparator: u8) -> usize
+    requires { ⌜ at + 4 ≤ longestText ⌝ }
     ensures { λ r. ⌜ Put (now (text .entry)) at (comparatorText (comparatorOf comparator)) 4 (now (text .exit)) r ⌝ }
 {
     match comparator {

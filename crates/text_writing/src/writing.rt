@@ -16,9 +16,9 @@ pub fn put(text: &mut [u8], at: usize, b: u8) -> usize
     at + 1
 }
 
-// A word, a mark or spaces: few bytes.
+// A word, a mark, spaces.
 pub fn put_bytes(text: &mut [u8], at: usize, bytes: &[u8]) -> usize
-    requires { ⌜ (length (now bytes) ≤ 5) × (at + 5 ≤ longestText) ⌝ }
+    requires { ⌜ at + length (now bytes) ≤ longestText ⌝ }
     ensures { λ r. ⌜ Put (now (text .entry)) at (now (bytes .entry)) (length (now (bytes .entry))) (now (text .exit)) r ⌝ }
 {
     let mut i = 0;
