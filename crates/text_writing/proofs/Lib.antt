@@ -4,3 +4,5 @@ pub mod Decimal
 pub mod Spelled
 pub mod Bracketed
 pub mod Pieces
+pub mod Listed
+pub mod Rules

@@ -1,14 +1,19 @@
 -- The text of each part of a rule: the bytes that its tokens print (Rattle.text.specs.Printed), with no tokens in between.
-use Prim.Native.Nat.{ℕ, zero, suc, _+_}
+use Prim.Native.Nat.{ℕ, zero, suc, _+_, _*_, _≤_}
 use mathlib.Core.Path.{_≡_}
 use mathlib.Core.Bool.{Bool, true, false}
 use mathlib.Core.List.{List, [], _∷_, _++_, map}
+use lib.ListN.{length}
 use Rattle.model.specs.declared.Slot.{Slot}
 use Rattle.model.specs.declared.Expression.{Expression}
+use Rattle.model.specs.declared.RuleShape.{RuleShape}
 use Rattle.model.specs.Slots.{expressionAt}
-use Rattle.model.specs.Table.{Guard}
+use Rattle.model.specs.Limits.{mostHeads, mostGuards, mostItems}
+use Rattle.model.specs.Table.{Guard, headsFrom, guardsFrom, itemsFrom, headsStart, guardsStart, itemsStart}
+use Rattle.model.proofs.Every.{every}
+use Rattle.records.specs.Geometry.{ItemsLie}
 use Rattle.grammar.specs.Tree.{Formula, alone, applied, HeadTree, GuardTree, ItemTree, fact, fail, RuleTree}
-use Rattle.grammar.specs.Layout.{termsIn, formulasIn}
+use Rattle.grammar.specs.Layout.{termsIn, formulasIn, headTree, guardTree, itemTree}
 use Rattle.text.specs.Token.{backslash, simplifies, propagates, bar, comma, stop, trueWord, failWord}
 use Rattle.text.specs.Printed.{termText, symbolText, comparatorText, operationText, markText}
 
@@ -119,3 +124,31 @@ bodyText (i ∷ is) = listText (map itemText (i ∷ is))
 
 unfoldable pub ruleText : RuleTree → List ℕ
 ruleText r = headsText (r .kept) (r .removed) ++ (guardsText (r .guards) ++ (bodyText (r .items) ++ markText stop))
+
+-- ---- where they lie in a table's bytes
+
+-- the texts of n parts, one behind the other from p on
+unfoldable pub headTexts : List ℕ → ℕ → ℕ → List (List ℕ)
+headTexts t p n = map headText (map headTree (headsFrom t p n))
+
+unfoldable pub guardTexts : List ℕ → ℕ → ℕ → List (List ℕ)
+guardTexts t p n = map guardText (map guardTree (guardsFrom t p n))
+
+unfoldable pub itemTexts : List ℕ → ℕ → ℕ → List (List ℕ)
+itemTexts t p n = map itemText (map itemTree (itemsFrom t p n))
+
+-- n comparisons from p on lie in the table, and both sides of each are used
+pub record GuardsLie (t : List ℕ) (p n : ℕ) : Type 0 where
+  pub lie : p + 24 * n ≤ length t
+  pub used : every BothUsed (guardsFrom t p n)
+
+-- a rule of a good table
+pub record Printable (t : List ℕ) (r : RuleShape) : Type 0 where
+  pub someHead : 1 ≤ r .heads
+  pub fewHeads : r .heads ≤ mostHeads
+  pub keptFew : r .kept ≤ r .heads
+  pub fewGuards : r .guards ≤ mostGuards
+  pub fewItems : r .items ≤ mostItems
+  pub headsLie : headsStart r + 22 * r .heads ≤ length t
+  pub guards : GuardsLie t (guardsStart r) (r .guards)
+  pub items : ItemsLie t (itemsStart r) (r .items)
