@@ -3,5 +3,6 @@
 pub mod arguments;
 pub mod lists;
 pub mod parts;
+pub mod rule;
 pub mod terms;
 pub mod writing;
