@@ -6,3 +6,5 @@ pub mod Bracketed
 pub mod Pieces
 pub mod Listed
 pub mod Rules
+pub mod Tokens
+pub mod Short
