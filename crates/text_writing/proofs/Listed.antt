@@ -35,20 +35,24 @@ left-all {s = s} {at} whole l h = record { text = rest-all s at whole; few = ome
 
 module _ {unit top : ℕ} {Lie : Type 0} {s₀ : List ℕ} {at : ℕ} {whole s : List ℕ} {end : ℕ} {rest : List ℕ} {left : ℕ}
     (l : Left unit top Lie s₀ at whole s end rest left) where
-  left-none : rest ≡ [] → Put s₀ at whole top s end
+  pub left-none : rest ≡ [] → Put s₀ at whole top s end
   left-none e = rest-none (l .text) top e (omega (arith, l .few, l .text .place, ap length e))
+
+  pub left-step : (Lie′ : Type 0) (x later : List ℕ) {n : ℕ} {u : List ℕ} {next : ℕ} → 0 < left → rest ≡ x ++ later → Put s end x n u next → n ≤ unit → Lie′
+      → Left unit top Lie′ s₀ at whole u next later (left - 1)
+  left-step Lie′ x later h e p small lie =
+      record {
+        text = rest-more (l .text) p later e;
+        few = omega (arith, l .few, p .place, p .few, mul-pred unit left h);
+        room = l .room;
+        lie = lie;
+      }
 
   left-more : (Lie′ : Type 0) (x : List ℕ) (xs : List (List ℕ)) {n : ℕ} {u v : List ℕ} {mid next : ℕ} → 0 < left → rest ≡ moreText (x ∷ xs)
       → Put s end (44 ∷ 32 ∷ []) 2 u mid → Put u mid x n v next → 2 + n ≤ unit → Lie′ → Left unit top Lie′ s₀ at whole v next (moreText xs) (left - 1)
   unfolding moreText markText
   left-more Lie′ x xs {n} h e p q small lie =
-      let both = put-both p q (44 ∷ 32 ∷ x) (2 + n) refl (omega arith) in
-      record {
-        text = rest-more (l .text) both (moreText xs) e;
-        few = omega (arith, l .few, both .place, both .few, mul-pred unit left h);
-        room = l .room;
-        lie = lie;
-      }
+      left-step Lie′ (44 ∷ 32 ∷ x) (moreText xs) h e (put-both p q (44 ∷ 32 ∷ x) (2 + n) refl (omega arith)) small lie
 
   pub left-long : length s ≡ length s₀
   left-long = rest-long (l .text)

@@ -1,0 +1,3 @@
+-- What holds of printing a table.
+pub mod Walks
+pub mod Calling
