@@ -30,8 +30,8 @@ use Rattle.text_writing.specs.Written.{longestText, Put}
 use Rattle.text_writing.specs.Parts.{some, slotTexts, expressionTexts, eachText, ruleText, BothUsed, GuardsLie, Printable}
 use Rattle.text_writing.proofs.Writes.{put-both}
 use Rattle.text_writing.proofs.Spelled.{expression-alone, expression-applied, constant-some, variable-some}
-use Rattle.text_writing.proofs.Listed.{Left, left-all, left-none, left-step}
-use Rattle.text_writing.proofs.Tokens.{printed-parts}
+use Rattle.rule_writing.proofs.Listed.{Left, left-all, left-none, left-step}
+use Rattle.rule_writing.proofs.Tokens.{printed-parts}
 
 -- ---- declarations
 

@@ -10,7 +10,7 @@ ghost use Rattle.text_writing.specs.Parts.{eachText, ruleText};
 use model::Reading;
 use model::Symbol;
 use records::geometry;
-use text_writing::rule;
+use rule_writing::rule;
 use text_writing::terms;
 use text_writing::writing;
 

@@ -1,7 +1,7 @@
 -- `sections::put_declarations` meets its contract. The invariant: the declarations that are left are what is left of the text.
 use Rattle.grammar.specs.Layout.{aritiesFrom}
 use Rattle.text.specs.Printed.{declarationsText}
-use Rattle.text_writing.proofs.Listed.{left-long}
+use Rattle.rule_writing.proofs.Listed.{left-long}
 use borrow.Author.Needs.{needs}
 use Rattle.text_printer.proofs.Walks.{DeclarationsLeft, declarations-begin, declaration-more, declarations-ended}
 use Rattle.text_printer.proofs.sections.put_declarations.Statement.{statement}

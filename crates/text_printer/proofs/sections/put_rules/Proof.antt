@@ -2,7 +2,7 @@
 use mathlib.Core.List.{map}
 use Rattle.grammar.specs.Layout.{treeOf}
 use Rattle.text_writing.specs.Parts.{eachText, ruleText}
-use Rattle.text_writing.proofs.Listed.{left-long}
+use Rattle.rule_writing.proofs.Listed.{left-long}
 use borrow.Author.Needs.{needs}
 use Rattle.text_printer.proofs.Walks.{RulesLeft, rules-begin, rule-printable, shape-in, rule-more, rules-ended}
 use Rattle.text_printer.proofs.sections.put_rules.Statement.{statement}

@@ -7,6 +7,13 @@ use Rattle.text_writing.proofs.Spelled.{comparator-told, comparator-put
 use Rattle.text_writing.proofs.terms.put_comparator.Statement.{statement}
 use Rattle.text_writing.proofs.terms.put_comparator.Tie as tie
 
+-- every other number: `=`
+returns-6 : tie.Need-returns-6
+unfolding comparatorText comparatorOf
+returns-6 c =
+    comparator-put (c .before .before .before .before .before .before .before .args .comparator) 0 (search (comparator-equal, needs))
+    (c .before .before .put-bytes6 .ensures) (omega arith)
+
 pub put-comparator-spec : {M : Type 1} → statement M
 unfolding comparatorText comparatorOf
 put-comparator-spec =
@@ -35,4 +42,4 @@ put-comparator-spec =
     (λ c. search needs)
     (λ c. comparator-told (c .before .before .before .before .before .match .keys5) (c .before .before .put-bytes5 .ensures) (omega arith))
     (λ c. search needs)
-    (λ c. comparator-put (c .before .before .before .before .before .before .before .args .comparator) 0 (search (comparator-equal, needs)) (c .before .before .put-bytes6 .ensures) (omega arith)))
+    returns-6)
