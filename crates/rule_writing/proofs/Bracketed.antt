@@ -145,7 +145,8 @@ module _ {P X : Type 0} (used : P → List X) (text : X → List ℕ) (few : (p 
   unfolding usedOf
   four-texts a b c d = simp (map-append, append-assoc, append-nil)
 
-  pub places-put : (a b c d : P) {s : List ℕ} {start n : ℕ} {s1 s2 s3 s4 s5 : List ℕ} {i j k l end : ℕ} → Put s start (argumentText (eqb start start) (texts a)) n s1 i
+  pub places-put : (a b c d : P) {s : List ℕ} {start n : ℕ} {s1 s2 s3 s4 s5 : List ℕ} {i j k l end : ℕ}
+      → Put s start (argumentText (eqb start start) (texts a)) n s1 i
       → Put s1 i (argumentText (eqb i start) (texts b)) n s2 j → Put s2 j (argumentText (eqb j start) (texts c)) n s3 k
       → Put s3 k (argumentText (eqb k start) (texts d)) n s4 l → Put s4 l (closedText (eqb l start)) 1 s5 end
       → Put s start (bracketText (map text (usedOf used (a ∷ b ∷ c ∷ d ∷ [])))) (0 + n + n + n + n + 1) s5 end
@@ -171,7 +172,8 @@ expression-few e = go (e .operation) (termsIn (e .left)) (termsIn (e .right))
     go (suc n) (x ∷ xs) [] = omega arith
     go (suc n) (x ∷ xs) (y ∷ ys) = omega arith
 
-pub terms-put : (a b c d : Slot) {s : List ℕ} {start : ℕ} {s1 s2 s3 s4 s5 : List ℕ} {i j k l end : ℕ} → Put s start (argumentText (eqb start start) (slotTexts a)) 13 s1 i
+pub terms-put : (a b c d : Slot) {s : List ℕ} {start : ℕ} {s1 s2 s3 s4 s5 : List ℕ} {i j k l end : ℕ}
+    → Put s start (argumentText (eqb start start) (slotTexts a)) 13 s1 i
     → Put s1 i (argumentText (eqb i start) (slotTexts b)) 13 s2 j → Put s2 j (argumentText (eqb j start) (slotTexts c)) 13 s3 k
     → Put s3 k (argumentText (eqb k start) (slotTexts d)) 13 s4 l → Put s4 l (closedText (eqb l start)) 1 s5 end
     → Put s start (bracketText (map termText (usedOf termsIn (a ∷ b ∷ c ∷ d ∷ [])))) 53 s5 end

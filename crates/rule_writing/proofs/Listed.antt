@@ -89,7 +89,8 @@ module _ (t : List ℕ) where
 
   pub heads-put : {s : List ℕ} {at : ℕ} {u v : List ℕ} {mid end : ℕ} (p n : ℕ) → Put s at (headText (headTree (headAt t p))) 64 u mid
       → Put u mid (moreText (headTexts t (p + 22) (n - 1))) (66 * (n - 1)) v end → 1 ≤ n → Put s at (listText (headTexts t p n)) (66 * n) v end
-  heads-put p n a b h = list-put (headText (headTree (headAt t p))) (headTexts t (p + 22) (n - 1)) a b h (omega arith) (headTexts t p n) (heads-texts p n (omega arith))
+  heads-put p n a b h =
+      list-put (headText (headTree (headAt t p))) (headTexts t (p + 22) (n - 1)) a b h (omega arith) (headTexts t p n) (heads-texts p n (omega arith))
 
 -- ---- guards
 
@@ -122,11 +123,13 @@ module _ (t : List ℕ) where
 
     pub guard-more : 0 < left → {u v : List ℕ} {mid next : ℕ} → Put s end (44 ∷ 32 ∷ []) 2 u mid → Put u mid (guardText (guardTree (guardAt t p))) 54 v next
         → GuardsLeft top s₀ at whole v next (p + 24) (left - 1)
-    guard-more h p1 q = left-more l (GuardsLie t (p + 24) (left - 1)) _ _ h (ap moreText (guards-texts p left h)) p1 q (omega arith) (guards-rest p left h (l .lie))
+    guard-more h p1 q =
+        left-more l (GuardsLie t (p + 24) (left - 1)) _ _ h (ap moreText (guards-texts p left h)) p1 q (omega arith) (guards-rest p left h (l .lie))
 
   pub guards-put : {s : List ℕ} {at : ℕ} {u v : List ℕ} {mid end : ℕ} (p n : ℕ) → Put s at (guardText (guardTree (guardAt t p))) 54 u mid
       → Put u mid (moreText (guardTexts t (p + 24) (n - 1))) (56 * (n - 1)) v end → 1 ≤ n → Put s at (listText (guardTexts t p n)) (56 * n) v end
-  guards-put p n a b h = list-put (guardText (guardTree (guardAt t p))) (guardTexts t (p + 24) (n - 1)) a b h (omega arith) (guardTexts t p n) (guards-texts p n (omega arith))
+  guards-put p n a b h =
+      list-put (guardText (guardTree (guardAt t p))) (guardTexts t (p + 24) (n - 1)) a b h (omega arith) (guardTexts t p n) (guards-texts p n (omega arith))
 
 -- ---- items
 
@@ -157,7 +160,8 @@ module _ (t : List ℕ) where
     pub item-more : 0 < left → {u v : List ℕ} {mid next q : ℕ} → Put s end (44 ∷ 32 ∷ []) 2 u mid → Put u mid (itemText (itemTree (itemAt t p))) 120 v next
         → q ≡ behindItem t p → ItemsLeft top s₀ at whole v next q (left - 1)
     item-more h {q = q} p1 p2 e =
-        left-more l (ItemsLie t q (left - 1)) _ _ h (ap moreText (items-texts p left h) ∙ ap (λ (x : ℕ). moreText (itemText (itemTree (itemAt t p)) ∷ itemTexts t x (left - 1))) (sym e))
+        left-more l (ItemsLie t q (left - 1)) _ _ h
+        (ap moreText (items-texts p left h) ∙ ap (λ (x : ℕ). moreText (itemText (itemTree (itemAt t p)) ∷ itemTexts t x (left - 1))) (sym e))
         p1 p2 (omega arith) (rest-lies t p left (l .lie) h e)
 
   pub items-put : {s : List ℕ} {at : ℕ} {u v : List ℕ} {mid end : ℕ} (p n : ℕ) {q : ℕ} → Put s at (itemText (itemTree (itemAt t p))) 120 u mid

@@ -62,7 +62,8 @@ module _ (t : List ℕ) (p : ℕ) (used : BothUsed (guardAt t p)) where
       → Put v b (firstText (expressionTexts r)) 25 w end → Put s at (guardText (guardTree (guardAt t p))) 54 w end
   unfolding guardText guardTree guardAt
   guard-put {l = l} {r} {k} el ek er x y z =
-      put-both x (put-both y z (comparatorText (comparatorOf k) ++ firstText (expressionTexts r)) 29 refl (omega arith)) (guardText (guardTree (guardAt t p))) 54
+      put-both x (put-both y z (comparatorText (comparatorOf k) ++ firstText (expressionTexts r)) 29 refl (omega arith))
+      (guardText (guardTree (guardAt t p))) 54
       (rw (el, ek, er, used-text (expressionAt t (p + 2)) (used .left), used-text (expressionAt t (p + 13)) (used .right))) (omega arith)
 
 -- ---- body items

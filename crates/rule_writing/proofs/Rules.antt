@@ -97,7 +97,8 @@ module _ (t : List ℕ) (r : RuleShape) where
 
   -- ---- the sides
 
-  module _ (g : Printable t r) {p q : ℕ} (ep : p ≡ headsStart r + 22 * 0) (eq : q ≡ headsStart r + 22 * r .kept) {s : List ℕ} {at : ℕ} {u : List ℕ} {a : ℕ} where
+  module _ (g : Printable t r) {p q : ℕ} (ep : p ≡ headsStart r + 22 * 0) (eq : q ≡ headsStart r + 22 * r .kept)
+      {s : List ℕ} {at : ℕ} {u : List ℕ} {a : ℕ} where
     pub simplified : {v : List ℕ} {end : ℕ} → r .kept ≡ 0 → Put s at (listText (headTexts t q (r .heads - r .kept))) (66 * (r .heads - r .kept)) u a
         → Put u a (32 ∷ 60 ∷ 61 ∷ 62 ∷ 32 ∷ []) 5 v end → Put s at (headsText (tree .kept) (tree .removed)) 272 v end
     unfolding markText
@@ -119,7 +120,8 @@ module _ (t : List ℕ) (r : RuleShape) where
     unfolding markText
     simpagated d e x y o l =
         let removed = 66 * (r .heads - r .kept) in
-        put-both x (put-both y (put-both o l _ (removed + 5) refl (omega arith)) _ (removed + 8) refl (omega arith)) (headsText (tree .kept) (tree .removed)) 272
+        put-both x (put-both y (put-both o l _ (removed + 5) refl (omega arith)) _ (removed + 8) refl (omega arith))
+        (headsText (tree .kept) (tree .removed)) 272
         (rw (kept-texts ep, removed-texts eq)
         (both-sides (tree .kept) (tree .removed) (omega (arith, kept-long, d)) (omega (arith, removed-long, e)))) (omega (arith, g .fewHeads, g .keptFew))
 
@@ -141,7 +143,8 @@ module _ (t : List ℕ) (r : RuleShape) where
     unfolding markText
     body-true e x = put-as x (no-item (tree .items) (items-long ∙ e)) (omega arith)
 
-    pub body-some : {p : ℕ} → p ≡ itemsStart r → {u : List ℕ} {end : ℕ} → (r .items ≡ 0 → ⊥) → Put s at (listText (itemTexts t p (r .items))) (122 * r .items) u end
+    pub body-some : {p : ℕ} → p ≡ itemsStart r → {u : List ℕ} {end : ℕ} → (r .items ≡ 0 → ⊥)
+        → Put s at (listText (itemTexts t p (r .items))) (122 * r .items) u end
         → Put s at (bodyText (tree .items)) 488 u end
     body-some e d x =
         put-as x (ap listText (items-texts e) ∙ some-items (tree .items) (omega (arith, items-long, d))) (omega (arith, g .fewItems))

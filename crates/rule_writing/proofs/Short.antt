@@ -52,7 +52,8 @@ module _ (unit : ℕ) where
   each-short (x ∷ xs) w = omega (arith, length-append x (eachText xs), each-short xs (w .1), w .0, mul-suc unit (length xs))
 
 -- the texts of parts with P
-every-text : {A : Type 0} (P : A → Type 0) (Q : List ℕ → Type 0) (text : A → List ℕ) → ((x : A) → P x → Q (text x)) → (xs : List A) → every P xs → every Q (map text xs)
+every-text : {A : Type 0} (P : A → Type 0) (Q : List ℕ → Type 0) (text : A → List ℕ) → ((x : A) → P x → Q (text x)) → (xs : List A) → every P xs
+    → every Q (map text xs)
 every-text P Q text f [] w = tt
 every-text P Q text f (x ∷ xs) w = (f x (w .0), every-text P Q text f xs (w .1))
 
@@ -93,7 +94,14 @@ formula-short : (f : Formula) → length (formulaText f) ≤ 25
 unfolding formulaText
 formula-short (alone a) = omega (arith, term-short a)
 formula-short (applied o a b) =
-    omega (arith, length-append (termText a) (operationText o ++ termText b), length-append (operationText o) (termText b), term-short a, term-short b, operation-short o)
+    omega (
+      arith,
+      length-append (termText a) (operationText o ++ termText b),
+      length-append (operationText o) (termText b),
+      term-short a,
+      term-short b,
+      operation-short o,
+    )
 
 -- ---- the parts of a rule, over symbols of arity 4 at most
 
@@ -176,7 +184,11 @@ module _ (arities : List ℕ) (small : every (λ (a : ℕ). a ≤ 4) arities) wh
   unfolding bodyText markText
   body-short hs [] w h = omega arith
   body-short hs (i ∷ is) w h =
-      omega (arith, list-short 122 (map itemText (i ∷ is)) (every-text (ItemGood arities hs) (Within 122) itemText (item-short hs) (i ∷ is) w), length-map (i ∷ is) itemText)
+      omega (
+        arith,
+        list-short 122 (map itemText (i ∷ is)) (every-text (ItemGood arities hs) (Within 122) itemText (item-short hs) (i ∷ is) w),
+        length-map (i ∷ is) itemText,
+      )
 
   rule-short : (r : RuleTree) → RuleGood arities r → length (ruleText r) ≤ 989
   unfolding ruleText markText

@@ -53,7 +53,8 @@ fn put_term(table: &[u8], p: usize, text: &mut [u8], start: usize, at: usize) ->
 // The expression at p.
 fn put_value(table: &[u8], p: usize, text: &mut [u8], start: usize, at: usize) -> usize
     requires { ⌜ (p + 11 ≤ length (now table)) × (at + 27 ≤ longestText) ⌝ }
-    ensures { λ r. ⌜ Put (now (text .entry)) at (argumentText (eqb at start) (expressionTexts (expressionAt (now (table .entry)) p))) 27 (now (text .exit)) r ⌝ }
+    ensures { λ r. ⌜ Put (now (text .entry)) at (argumentText (eqb at start) (expressionTexts (expressionAt (now (table .entry)) p))) 27
+        (now (text .exit)) r ⌝ }
 {
     let e = slots::expression_at(table, p);
     if !terms::expression_used(e) {

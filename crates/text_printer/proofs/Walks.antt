@@ -64,7 +64,8 @@ module _ (t : List ℕ) where
   declarations-begin n h = let e : n - n ≡ 0 = omega arith in rw e (left-all (declarationsText 0 (aritiesFrom t 0 n)) (omega arith) h)
 
   module _ (n : ℕ) {s₀ : List ℕ} {at : ℕ} {whole s : List ℕ} {end : ℕ} (left : ℕ) (l : DeclarationsLeft t n s₀ at whole s end left) where
-    pub declaration-more : 0 < left → {u : List ℕ} {next : ℕ} → Put s end (declaration t (n - left)) 24 u next → DeclarationsLeft t n s₀ at whole u next (left - 1)
+    pub declaration-more : 0 < left → {u : List ℕ} {next : ℕ} → Put s end (declaration t (n - left)) 24 u next
+        → DeclarationsLeft t n s₀ at whole u next (left - 1)
     declaration-more h p =
         let few : left ≤ n = l .lie in
         let e : n - (left - 1) ≡ suc (n - left) = omega arith in
@@ -168,7 +169,8 @@ module _ {t : List ℕ} {r : Reading} {n : ℕ} {s₀ : List ℕ} {at : ℕ} {wh
         let few : left ≤ n = l .lie .few in
         let e : n - (left - 1) ≡ n - left + 1 = omega arith in
         rw e
-        (left-step l (LastRules t r n (left - 1)) (ruleText (ruleTree (ruleOf t (getD (r .shapes) (n - left) noShape)))) (rulesText t (n - left + 1)) h one-ruled p
+        (left-step l (LastRules t r n (left - 1)) (ruleText (ruleTree (ruleOf t (getD (r .shapes) (n - left) noShape))))
+        (rulesText t (n - left + 1)) h one-ruled p
         (omega arith) (record { known = l .lie .known; all = l .lie .all; few = omega arith; fewRules = l .lie .fewRules }))
 
   pub rules-ended : left ≤ 0 → Put s₀ at whole (989 * n) s end

@@ -77,7 +77,8 @@ decimal-last n h u =
 pub digit-put : {s : List ℕ} {at n : ℕ} {u : List ℕ} {end : ℕ} → Put s at ((48 + n) ∷ []) 1 u end → n < 10 → Put s at (decimal n) 10 u end
 digit-put {n = n} p h = put-as p (sym (decimal-one n h)) (omega arith)
 
-pub digits-put : {s : List ℕ} {at : ℕ} (n : ℕ) {u v : List ℕ} {mid end : ℕ} → Put s at (decimal (n / 10)) 10 u mid → Put u mid ((48 + n % 10) ∷ []) 1 v end → 10 ≤ n
+pub digits-put : {s : List ℕ} {at : ℕ} (n : ℕ) {u v : List ℕ} {mid end : ℕ} → Put s at (decimal (n / 10)) 10 u mid
+    → Put u mid ((48 + n % 10) ∷ []) 1 v end → 10 ≤ n
     → n < 4294967296 → Put s at (decimal n) 10 v end
 digits-put n p q h l =
     let b = put-both p q (decimal n) 11 (sym (decimal-last n h l)) (omega arith) in record { place = b .place; same = b .same; few = decimal-few n }

@@ -41,7 +41,9 @@ module _ {s : List ℕ} {at : ℕ} {xs : List ℕ} {m : ℕ} {u : List ℕ} {mid
 
   -- the same bytes, and a greater bound
   pub put-as : {whole : List ℕ} {most : ℕ} → xs ≡ whole → m ≤ most → Put s at whole most u mid
-  put-as e h = let l = ap length e in record { place = omega (arith, p .place, l); same = p .same ∙ ap (λ bytes. written at bytes s) e; few = omega (arith, p .few, l) }
+  put-as e h =
+      let l = ap length e in
+      record { place = omega (arith, p .place, l); same = p .same ∙ ap (λ bytes. written at bytes s) e; few = omega (arith, p .few, l) }
 
   pub put-both : {ys : List ℕ} {n : ℕ} {v : List ℕ} {end : ℕ} → Put u mid ys n v end → (whole : List ℕ) (most : ℕ) → xs ++ ys ≡ whole → m + n ≤ most
       → Put s at whole most v end
@@ -54,7 +56,9 @@ module _ {s : List ℕ} {at : ℕ} {xs : List ℕ} {m : ℕ} {u : List ℕ} {mid
       }
 
 pub put-none : (s : List ℕ) (at : ℕ) {whole : List ℕ} (most : ℕ) → [] ≡ whole → Put s at whole most s at
-put-none s at most e = let l = ap length e in record { place = omega (arith, l); same = sym (written-none at s) ∙ ap (λ bytes. written at bytes s) e; few = omega (arith, l) }
+put-none s at most e =
+    let l = ap length e in
+    record { place = omega (arith, l); same = sym (written-none at s) ∙ ap (λ bytes. written at bytes s) e; few = omega (arith, l) }
 
 -- ---- one byte
 

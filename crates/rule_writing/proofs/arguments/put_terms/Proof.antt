@@ -21,7 +21,8 @@ first c = second c .before .before .before .before
 returns : tie.Need-returns
 unfolding headAt
 returns c =
-    terms-put _ _ _ _ (first c .put-term .ensures) (second c .put-term2 .ensures) (third c .put-term3 .ensures) (fourth c .put-term4 .ensures) (c .before .before .put-end .ensures)
+    terms-put _ _ _ _ (first c .put-term .ensures) (second c .put-term2 .ensures) (third c .put-term3 .ensures)
+    (fourth c .put-term4 .ensures) (c .before .before .put-end .ensures)
 
 pub put-terms-spec : {M : Type 1} → statement M
 put-terms-spec =

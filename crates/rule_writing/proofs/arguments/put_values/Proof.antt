@@ -19,7 +19,8 @@ first c = second c .before .before .before .before
 
 returns : tie.Need-returns
 returns c =
-    values-put _ _ _ _ (first c .put-value .ensures) (second c .put-value2 .ensures) (third c .put-value3 .ensures) (fourth c .put-value4 .ensures) (c .before .before .put-end .ensures)
+    values-put _ _ _ _ (first c .put-value .ensures) (second c .put-value2 .ensures) (third c .put-value3 .ensures)
+    (fourth c .put-value4 .ensures) (c .before .before .put-end .ensures)
 
 pub put-values-spec : {M : Type 1} → statement M
 put-values-spec =
