@@ -1,15 +1,14 @@
 -- Parts that are parted by commas: what is left of them is what is left of the text, and each turn writes one.
 use Prim.Native.Nat.{ℕ, zero, suc, _+_, _-_, _*_, _≤_, _<_}
 use mathlib.Core.Path.{_≡_, refl, sym, ap, _∙_}
-use mathlib.Core.List.{List, [], _∷_, _++_, map, append-assoc}
+use mathlib.Core.List.{List, [], _∷_, _++_}
 use native.Mathlib.Omega.{arith}
 use native.Mathlib.Nat.{mul-suc}
 use lib.ListN.{length}
-use Rattle.model.specs.Table.{headAt, guardAt, itemAt, headsFrom, guardsFrom, itemsFrom, behindItem}
+use Rattle.model.specs.Table.{headAt, guardAt, itemAt, guardsFrom, behindItem}
 use Rattle.model.proofs.Every.{every}
 use Rattle.model.proofs.Decoded.{heads-none, heads-first, guards-none, guards-first, items-none, items-first}
 use Rattle.grammar.specs.Layout.{headTree, guardTree, itemTree}
-use Rattle.text.specs.Token.{comma}
 use Rattle.text.specs.Printed.{markText}
 use Rattle.records.specs.Geometry.{ItemsLie}
 use Rattle.records.proofs.PartsLie.{first-lies, rest-lies}

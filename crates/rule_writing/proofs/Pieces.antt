@@ -8,17 +8,15 @@ use lib.IntN.{pos}
 use lib.ListN.{length, getD}
 use Rattle.model.specs.declared.Expression.{Expression}
 use Rattle.model.specs.Slots.{slotAt, expressionAt}
-use Rattle.model.specs.Table.{Head, Guard, BodyItem, headAt, guardAt, bodyFactAt, itemAt, isFact, behindItem}
+use Rattle.model.specs.Table.{BodyItem, headAt, guardAt, bodyFactAt, itemAt, isFact, behindItem}
 use Rattle.model.proofs.Lists.{never}
 use Rattle.model.proofs.Decoded.{item-fact, item-fail}
 use Rattle.grammar.specs.Tree.{Formula, alone, constant}
 use Rattle.grammar.specs.Layout.{usedOf, termsIn, formulasIn, formulaIn, comparatorOf, headTree, guardTree, itemTree}
-use Rattle.text.specs.Token.{failWord}
 use Rattle.text.specs.Printed.{termText, symbolText, comparatorText, markText}
 use Rattle.records.proofs.PartsLie.{fact-lies}
 use Rattle.text_writing.specs.Written.{Put}
 use Rattle.text_writing.specs.Parts.{some, firstText, formulaText, expressionTexts, bracketText, argumentsAt, BothUsed, headText, guardText, itemText}
-use Rattle.text_writing.specs.Parts.{slotTexts, argumentText, closedText}
 use Rattle.text_writing.proofs.Writes.{put-as, put-both}
 
 -- ---- heads

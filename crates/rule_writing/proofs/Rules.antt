@@ -1,16 +1,16 @@
 -- A rule, as it is written: which sides it has, whether it has comparisons, and whether its body is empty.
-use Prim.Native.Nat.{ℕ, zero, suc, _+_, _-_, _*_, _≤_, _<_}
-use mathlib.Core.Path.{_≡_, refl, sym, ap, _∙_}
-use mathlib.Core.List.{List, [], _∷_, _++_, map, append-assoc}
+use Prim.Native.Nat.{ℕ, _+_, _-_, _*_, _≤_}
+use mathlib.Core.Path.{_≡_, refl, ap, _∙_}
+use mathlib.Core.List.{List, [], _∷_, _++_, map}
 use native.Mathlib.Omega.{arith}
 use lib.ListN.{length, length-map}
 use Rattle.model.specs.declared.RuleShape.{RuleShape}
-use Rattle.model.specs.Table.{headsFrom, guardsFrom, itemsFrom, headsStart, guardsStart, itemsStart, ruleOf}
+use Rattle.model.specs.Table.{headsStart, guardsStart, itemsStart, ruleOf}
 use Rattle.model.proofs.Decoded.{heads-length, guards-length, items-length}
 use Rattle.grammar.specs.Tree.{HeadTree, GuardTree, ItemTree, RuleTree}
 use Rattle.grammar.specs.Layout.{headTree, guardTree, itemTree, ruleTree}
 use Rattle.records.specs.Geometry.{ItemsLie}
-use Rattle.text.specs.Token.{backslash, simplifies, propagates, bar, stop, trueWord}
+use Rattle.text.specs.Token.{backslash, simplifies, propagates, bar, trueWord}
 use Rattle.text.specs.Printed.{markText}
 use Rattle.text_writing.specs.Written.{Put}
 use Rattle.text_writing.specs.Parts.{listText, headText, guardText, itemText, headsText, guardsText, bodyText, ruleText, headTexts, guardTexts, itemTexts}

@@ -1,11 +1,11 @@
 -- The text of a well-formed tree is at most 65,536 bytes long: a number has ten digits at most, and the parts are few.
-use Prim.Native.Nat.{ℕ, zero, suc, _+_, _*_, _≤_}
-use mathlib.Core.Path.{_≡_, refl, sym, ap, _∙_}
+use Prim.Native.Nat.{ℕ, suc, _+_, _*_, _≤_}
+use mathlib.Core.Path.{_≡_, ap}
 use mathlib.Core.List.{List, [], _∷_, _++_, map}
 use native.Mathlib.Omega.{arith}
 use native.Mathlib.Nat.{mul-suc}
 use lib.IntN.{pos, negsuc}
-use lib.ListN.{length, getD, length-append, length-map}
+use lib.ListN.{length, length-append, length-map}
 use Rattle.model.specs.declared.Verdict.the-variants.{Good}
 use Rattle.model.specs.Reading.{readOf}
 use Rattle.model.proofs.Every.{every}
@@ -13,7 +13,7 @@ use Rattle.model.proofs.Lists.{every-getD}
 use Rattle.grammar.specs.Tree.{Term, constant, variable, Operation, sum, difference, product, quotient, remainder, Formula, alone, applied, Comparator}
 use Rattle.grammar.specs.Tree.{equal, unequal, less, atMost, greater, atLeast, HeadTree, GuardTree, ItemTree, fact, fail, RuleTree, TableTree}
 use Rattle.grammar.specs.Layout.{treeOf}
-use Rattle.grammar.specs.WellFormed.{HeadGood, ItemGood, GuardGood, RuleGood, WellFormed, Uses}
+use Rattle.grammar.specs.WellFormed.{HeadGood, ItemGood, RuleGood, WellFormed, Uses}
 use Rattle.grammar.proofs.Grammar.{good-encodes}
 use Rattle.model.proofs.Ranges.{AreBytes}
 use Rattle.text.specs.Token.{comma}

@@ -3,11 +3,11 @@ use Prim.Native.Nat.{ℕ}
 use mathlib.Core.Path.{_≡_, refl, sym, ap, _∙_}
 use mathlib.Core.List.{List, [], _∷_, _++_, map, append-assoc, append-nil}
 use Rattle.grammar.specs.Tree.{Term, Formula, alone, applied, HeadTree, GuardTree, ItemTree, fact, fail, RuleTree, TableTree}
-use Rattle.text.specs.Token.{Token, symbol, slot, compares, operates, mark, backslash, simplifies, propagates, bar, opens, closes, comma, stop}
+use Rattle.text.specs.Token.{Token, compares, mark, backslash, simplifies, propagates, bar, closes, stop}
 use Rattle.text.specs.Token.{trueWord, failWord}
 use Rattle.text.specs.Text.{moreTokens, listTokens, bracketTokens, eachTokens, termTokens, formulaTokens, headTokens, guardTokens, itemTokens, headsTokens}
 use Rattle.text.specs.Text.{guardsTokens, bodyTokens, ruleTokens}
-use Rattle.text.specs.Printed.{termText, symbolText, comparatorText, operationText, markText, tokenText, tokensText, declarationsText, printed}
+use Rattle.text.specs.Printed.{termText, symbolText, operationText, markText, tokenText, tokensText, declarationsText, printed}
 use Rattle.text_writing.specs.Parts.{moreText, listText, openText, closeText, bracketText, eachText, formulaText, headText, guardText, itemText}
 use Rattle.text_writing.specs.Parts.{headsText, guardsText, bodyText, ruleText}
 

@@ -1,10 +1,10 @@
 -- The call, case by case: a refused table, a buffer without room, and a text that is written.
-use Prim.Native.Nat.{ℕ, _+_, _≤_, _<_}
-use mathlib.Core.Path.{_≡_, refl, sym, ap, _∙_}
-use mathlib.Core.List.{List, _++_}
+use Prim.Native.Nat.{ℕ, _≤_, _<_}
+use mathlib.Core.Path.{_≡_, refl, ap, _∙_}
+use mathlib.Core.List.{List}
 use native.Mathlib.Omega.{arith}
 use lib.Dec.{leb}
-use lib.ListN.{length, drop}
+use lib.ListN.{length}
 use borrow.Author.Tests.{le-leb, lt-leb}
 use Rattle.model.specs.declared.CallResult.{CallResult}
 use Rattle.model.specs.declared.Reading.{Reading}
@@ -12,13 +12,13 @@ use Rattle.model.specs.declared.Verdict.the-variants.{Good, Refused}
 use Rattle.model.specs.Reading.{readOf}
 use Rattle.model.specs.Results.{refusal}
 use Rattle.grammar.specs.Layout.{treeOf}
-use Rattle.rule_weights.specs.Views.{Known, Counted}
+use Rattle.rule_weights.specs.Views.{Counted}
 use Rattle.table.proofs.Verdicts.{verdict-read}
 use Rattle.text.specs.Printed.{printed}
 use Rattle.text_writing.specs.Written.{longestText, Put}
 use Rattle.text_writing.proofs.Writes.{written-front}
 use Rattle.text_printer.specs.declared.Printing.{Printing}
-use Rattle.text_printer.specs.PrintText.{refusedPrint, printedInto, printRoom, printTable, printTextOf, Prints}
+use Rattle.text_printer.specs.PrintText.{printRoom, printTable, printTextOf, Prints}
 
 abbrev outcomeOf : CallResult → ℕ → Printing
 outcomeOf r n = record { result = r; length = n }

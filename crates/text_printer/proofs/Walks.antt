@@ -2,12 +2,11 @@
 use Prim.Native.Nat.{ℕ, zero, suc, _+_, _-_, _*_, _≤_, _<_}
 use mathlib.Core.Path.{_≡_, refl, sym, ap, _∙_, subst}
 use mathlib.Core.Logic.{⊎-elim}
-use mathlib.Core.Bool.{true, false}
+use mathlib.Core.Bool.{true}
 use mathlib.Core.List.{List, [], _∷_, _++_, map, append-assoc}
 use native.Mathlib.Omega.{arith}
-use native.Mathlib.Numerals.{add-one}
 use native.Mathlib.Nat.{eq-zero-or-pos}
-use lib.ListN.{length, getD, drop, length-append}
+use lib.ListN.{getD, drop}
 use Rattle.model.specs.declared.Slot.{Slot}
 use Rattle.model.specs.declared.Slot.the-variants.{Unused, Constant, Variable, Bad}
 use Rattle.model.specs.declared.Expression.{Expression}
@@ -17,7 +16,7 @@ use Rattle.model.specs.declared.Verdict.the-variants.{Good}
 use Rattle.model.specs.Limits.{mostRules}
 use Rattle.model.specs.Fields.{arityAt}
 use Rattle.model.specs.Reading.{noShape, readOf}
-use Rattle.model.specs.Table.{Head, Guard, Rule, heads, guardsFrom, guardsStart, itemsStart, ruleOf, ruleAt, tableOf}
+use Rattle.model.specs.Table.{Head, Guard, Rule, guardsFrom, guardsStart, itemsStart, ruleOf, ruleAt, tableOf}
 use Rattle.model.proofs.Every.{every, every-weaken}
 use Rattle.model.proofs.Decoded.{rule-at, rule-guards}
 use Rattle.model.proofs.Parts.{UsedSlot, GoodExpression, GoodGuard, rule-parts}
@@ -27,7 +26,7 @@ use Rattle.rule_weights.specs.Views.{Known}
 use Rattle.rule_weights.proofs.Turns.{known-good, few-rules, rule-good, read, rule-among, first, last, symbols-same}
 use Rattle.text.specs.Printed.{decimal, symbolText, declarationsText, printed}
 use Rattle.text_writing.specs.Written.{longestText, Put}
-use Rattle.text_writing.specs.Parts.{some, slotTexts, expressionTexts, eachText, ruleText, BothUsed, GuardsLie, Printable}
+use Rattle.text_writing.specs.Parts.{some, slotTexts, expressionTexts, eachText, ruleText, BothUsed, Printable}
 use Rattle.text_writing.proofs.Writes.{put-both}
 use Rattle.text_writing.proofs.Spelled.{expression-alone, expression-applied, constant-some, variable-some}
 use Rattle.rule_writing.proofs.Listed.{Left, left-all, left-none, left-step}

@@ -10,7 +10,7 @@ ghost use Rattle.grammar.specs.Layout.{treeOf};
 ghost use Rattle.rule_weights.specs.Views.{Known, Counted};
 ghost use Rattle.text.specs.Printed.{printed};
 ghost use Rattle.text_writing.specs.Written.{longestText};
-ghost use Rattle.text_printer.specs.PrintText.{refusedPrint, printRoom, printTextOf, Prints};
+ghost use Rattle.text_printer.specs.PrintText.{printRoom, printTextOf, Prints};
 use model::CallResult;
 use model::Reading;
 use model::Verdict;

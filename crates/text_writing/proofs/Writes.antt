@@ -1,11 +1,11 @@
 -- Texts that are written one behind the other are one text that is written, and a text that goes on is what is left of the whole.
-use Prim.Native.Nat.{ℕ, zero, suc, _+_, _-_, _≤_, _<_}
+use Prim.Native.Nat.{ℕ, suc, _+_, _≤_, _<_}
 use mathlib.Core.Path.{_≡_, refl, sym, ap, _∙_}
 use mathlib.Core.List.{List, [], _∷_, _++_}
 use native.Mathlib.Omega.{arith}
 use native.Mathlib.Numerals.{add-one}
 use lib.ListN.{length, getD, drop, set, length-append, drop-of-length-le}
-use lib.Seq.{sets, length-sets, sets-eq, set-out, drop-cons}
+use lib.Seq.{length-sets, sets-eq, set-out, drop-cons}
 use Rattle.text_writing.specs.Written.{written, Put}
 
 pub written-none : (at : ℕ) (s : List ℕ) → written at [] s ≡ s

@@ -1,6 +1,5 @@
 -- `lists::put_more_guards` meets its contract. The invariant: the guards that are left are what is left of the text.
 use Prim.Native.Nat.{_*_}
-use native.Mathlib.Omega.{arith}
 use borrow.Author.Needs.{needs}
 use Rattle.text_writing.specs.Parts.{moreText, guardTexts}
 use Rattle.rule_writing.proofs.Listed.{GuardsLeft, left-all, left-long, guard-used, guard-more, guards-ended}

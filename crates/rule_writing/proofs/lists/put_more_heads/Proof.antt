@@ -1,6 +1,5 @@
 -- `lists::put_more_heads` meets its contract. The invariant: the heads that are left are what is left of the text.
 use Prim.Native.Nat.{_*_}
-use native.Mathlib.Omega.{arith}
 use borrow.Author.Needs.{needs}
 use Rattle.text_writing.specs.Parts.{moreText, headTexts}
 use Rattle.rule_writing.proofs.Listed.{HeadsLeft, left-all, left-long, head-more, heads-ended}

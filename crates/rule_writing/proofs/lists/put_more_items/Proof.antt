@@ -1,6 +1,5 @@
 -- `lists::put_more_items` meets its contract. The invariant: the items that are left are what is left of the text.
 use Prim.Native.Nat.{_*_}
-use native.Mathlib.Omega.{arith}
 use borrow.Author.Needs.{needs}
 use Rattle.text_writing.specs.Parts.{moreText, itemTexts}
 use Rattle.rule_writing.proofs.Listed.{ItemsLeft, item-in, item-ends, left-all, left-long, item-more, items-ended}

@@ -1,10 +1,7 @@
 -- `writing::put_bytes` meets its contract. The invariant: the bytes from i on are what is left to write.
-use Prim.Native.Nat.{_+_, _-_, _≤_}
-use mathlib.Core.Path.{_≡_}
-use native.Mathlib.Omega.{arith}
+use Prim.Native.Nat.{_-_}
 use borrow.Author.Needs.{needs}
-use lib.ListN.{length, drop, length-drop}
-use Rattle.text_writing.specs.Written.{longestText}
+use lib.ListN.{length, drop}
 use Rattle.text_writing.proofs.Writes.{Rest, rest-all, rest-more, rest-none, rest-far, bytes-first, bytes-last, rest-long}
 use Rattle.text_writing.proofs.writing.put_bytes.Statement.{statement}
 use Rattle.text_writing.proofs.writing.put_bytes.Tie as tie
