@@ -12,7 +12,9 @@ use Rattle.model.specs.Calls.{RunOutput, runOf, weighOf}
 use Rattle.model.proofs.Demand3.{weighed-run}
 use Rattle.finding_weights.specs.Find.{Finding, findOf}
 use Rattle.finding_weights.proofs.Promise.{GoalAlone, found-weighs}
-use Rattle.nadhirukh.specs.Words.{Given, RunGiven, WeighGiven, FindGiven}
+use Rattle.text_reader.specs.ReadText.{ReadCall}
+use Rattle.text_printer.specs.PrintText.{PrintCall}
+use Rattle.nadhirukh.specs.Words.{Given, RunGiven, WeighGiven, FindGiven, ReadGiven, PrintGiven}
 
 -- ---- each call has one outcome
 
@@ -50,6 +52,22 @@ pub record SameFind (weights weights′ told told′ : List ℕ) (n n′ : ℕ) 
 pub one-find-given : {o : Finding} {weights weights′ told told′ : List ℕ} {n n′ : ℕ} → FindGiven o weights told n → FindGiven o weights′ told′ n′
     → SameFind weights weights′ told told′ n n′
 one-find-given a b = record { bytes = a .bytes ∙ sym (b .bytes); given = one-given (a .given) (b .given) }
+
+-- a buffer's bytes and how many were written, too
+pub record SameWriting (buffer buffer′ told told′ one one′ : List ℕ) (n n′ : ℕ) : Type 0 where
+  pub bytes : buffer ≡ buffer′
+  pub given : Same told told′ n n′
+  pub written : one ≡ one′
+
+pub one-read-given : {o : ReadCall} {table table′ told told′ one one′ : List ℕ} {n n′ : ℕ} → ReadGiven o table told one n
+    → ReadGiven o table′ told′ one′ n′ → SameWriting table table′ told told′ one one′ n n′
+one-read-given a b =
+    record { bytes = a .bytes ∙ sym (b .bytes); given = one-given (a .given) (b .given); written = a .written ∙ sym (b .written) }
+
+pub one-print-given : {o : PrintCall} {text text′ told told′ one one′ : List ℕ} {n n′ : ℕ} → PrintGiven o text told one n
+    → PrintGiven o text′ told′ one′ n′ → SameWriting text text′ told told′ one one′ n n′
+one-print-given a b =
+    record { bytes = a .bytes ∙ sym (b .bytes); given = one-given (a .given) (b .given); written = a .written ∙ sym (b .written) }
 
 -- ---- a weighing, then a run
 

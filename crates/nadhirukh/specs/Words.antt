@@ -6,6 +6,8 @@ use Rattle.model.specs.declared.CallResult.{CallResult}
 use Rattle.model.specs.declared.Weighing.{Weighing}
 use Rattle.model.specs.Calls.{RunOutput}
 use Rattle.finding_weights.specs.Find.{Finding}
+use Rattle.text_reader.specs.ReadText.{ReadCall}
+use Rattle.text_printer.specs.PrintText.{PrintCall}
 
 abbrev pub wordsOf : CallResult → List ℕ
 wordsOf r = r .number ∷ r .place ∷ r .steps ∷ r .firings ∷ r .identifiers ∷ r .stored ∷ []
@@ -29,3 +31,15 @@ pub record WeighGiven (w : Weighing) (told two : List ℕ) (number : ℕ) : Type
 pub record FindGiven (o : Finding) (weights told : List ℕ) (number : ℕ) : Type 0 where
   pub bytes : weights ≡ o .weights
   pub given : Given (o .result) told number
+
+-- reading a text gives back the table's bytes too, and how many were written
+pub record ReadGiven (o : ReadCall) (table told one : List ℕ) (number : ℕ) : Type 0 where
+  pub bytes : table ≡ o .table
+  pub given : Given (o .result) told number
+  pub written : one ≡ o .length ∷ []
+
+-- printing a table gives back the text's bytes too, and how many were written
+pub record PrintGiven (o : PrintCall) (text told one : List ℕ) (number : ℕ) : Type 0 where
+  pub bytes : text ≡ o .text
+  pub given : Given (o .result) told number
+  pub written : one ≡ o .length ∷ []

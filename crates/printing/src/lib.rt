@@ -1,5 +1,7 @@
-// What the programs print on the standard output: numbers, bytes in hexadecimal, a result's numbers, and the facts of an answer.
+// What the programs print: numbers, bytes in hexadecimal, a result's numbers, the facts of an answer, and the front of a buffer on the standard output; a
+// refusal on the standard error.
 // What a call of C's writes no contract can say, so these have none: each is proved safe and ending.
+use libc::STDERR_FILENO;
 use libc::STDOUT_FILENO;
 use model::Answer;
 use model::CallResult;
@@ -79,4 +81,21 @@ pub fn put_facts(table: &[u8], facts: &[u8]) {
         put_fact(table, &facts[at..end]);
         at = end;
     }
+}
+
+// The first bytes of a buffer, as they are.
+pub fn put_front(s: &[u8], length: u32) {
+    let end = length as usize;
+    if s.len() < end {
+        return;
+    }
+    put(&s[0..end]);
+}
+
+// The number and the place of a refusal, on the standard error.
+pub fn put_refusal(r: CallResult) {
+    io::print_decimal(STDERR_FILENO, r.number as u64);
+    io::write_all(STDERR_FILENO, b" ");
+    io::print_decimal(STDERR_FILENO, r.place as u64);
+    io::write_all(STDERR_FILENO, b"\n");
 }

@@ -41,10 +41,10 @@ module _ {t : List ℕ} {r : Reading} (k : Known t r) where
     abbrev shape : RuleShape
     shape = getD (r .shapes) i noShape
 
-    read : i < readOf t .rules
+    pub read : i < readOf t .rules
     read = rw (k .same) at h
 
-    rule-good : GoodRule t (readOf t .symbols) shape
+    pub rule-good : GoodRule t (readOf t .symbols) shape
     rule-good = rw (k .same) (known-good .each i read)
 
     pub lies : Lies t shape

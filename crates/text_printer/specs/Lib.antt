@@ -1,0 +1,2 @@
+-- The call that prints a table as text.
+pub mod PrintText
