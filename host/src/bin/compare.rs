@@ -20,7 +20,7 @@ use std::thread;
 use std::time::{Duration, Instant};
 
 use nadhirukh_host::cases::{any_case, edges, finding, Call, Case};
-use nadhirukh_host::outcome::{findings, numbers, PAST_NUMBERS};
+use nadhirukh_host::outcome::{findings, table_numbers, PAST_NUMBERS};
 use nadhirukh_host::tools::{self, Trouble};
 use nadhirukh_host::{stored, verdict};
 
@@ -256,7 +256,7 @@ impl Tally {
             println!("{}: {} cases, {} differ", name, cases, differences);
             failed += usize::from(differences > 0 || cases == 0);
         }
-        let of_all = each_occurred("of all calls", &numbers(), &self.numbers);
+        let of_all = each_occurred("of all calls", &table_numbers(), &self.numbers);
         let of_find = each_occurred("of the search for weights", &findings(), &self.findings);
         let complete = self.random_cases() == wanted && of_all && of_find;
         failed += usize::from(!complete);
