@@ -12,12 +12,12 @@ use nadhirukh_host::{divisions, format, plain, reference};
 
 const CASES: u64 = 20_000;
 
-/// The plain engine's verdict, on calls that it has.
+/// The plain engine's verdict, on calls of this mixture that it has.
 fn plain_verdict(case: &Case) -> Option<Verdict> {
     match case.call {
         Call::Check => Some(Verdict::of_check(plain::check(&case.table))),
         Call::Run => Some(Verdict::of_run(case, plain::run)),
-        Call::Weigh | Call::FindWeights => None,
+        _ => None,
     }
 }
 
