@@ -3,13 +3,11 @@
 
 use nadhirukh_host::cases::random::Random;
 use nadhirukh_host::ending::Ending;
-use nadhirukh_host::example::{draw, goal_bytes, in_folder, Example, ANY_ORDER, BY_ORDER};
+use nadhirukh_host::example::{draw, goal_bytes, in_folder, Example, ANY_ORDER, BY_GOAL, BY_ORDER};
 use nadhirukh_host::format::ANSWER_LEN;
 use nadhirukh_host::reference::state::Fact;
 use nadhirukh_host::{plain, reference};
 
-/// The folder of the examples whose result depends on the order of the goal.
-const BY_GOAL: &str = "examples/goal_order";
 /// The step limit of the program *run*.
 const LIMIT: u32 = 1_000_000;
 /// How many random goals each example is run on.

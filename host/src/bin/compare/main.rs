@@ -1,13 +1,17 @@
-//! `compare FOLDER CASES SEED PROGRAM [ARGUMENT...]`: random cases through the C interface.
+//! `compare MIXTURE FOLDER CASES SEED PROGRAM [ARGUMENT...]`: random cases through the C interface,
+//! of the calls that take a table (`tables`), or of texts that are read and printed (`texts`).
 //!
 //! PROGRAM is `c/replay.c` linked with the proved library, perhaps behind an emulator. It gets the
-//! tables at every edge and then CASES random cases, a batch at a time in a file of FOLDER, and has
+//! cases at every edge and then CASES random cases, a batch at a time in a file of FOLDER, and has
 //! to print the lines that the reference expects. Its own part is to lend every buffer between guard
 //! bytes, and to see that no call touches what it may not.
 //!
 //! Prints how far it is, how often each number occurred and, last, `N passed, M failed` over what
-//! it tested: the four calls, the tables at every edge, and that every number occurred, of the search
-//! for weights every one that it can give.
+//! it tested: each call, the cases at every edge, that every number occurred, and of texts that they
+//! were refused at every position of the grammar.
+
+mod mixture;
+mod tally;
 
 use std::env;
 use std::fs::File;
@@ -19,45 +23,42 @@ use std::sync::Mutex;
 use std::thread;
 use std::time::{Duration, Instant};
 
-use nadhirukh_host::cases::{any_case, edges, finding, Call, Case};
-use nadhirukh_host::outcome::{findings, table_numbers, PAST_NUMBERS};
+use mixture::{Mixture, MIXTURES};
+use nadhirukh_host::cases::Case;
+use nadhirukh_host::positions::Positions;
 use nadhirukh_host::tools::{self, Trouble};
 use nadhirukh_host::{stored, verdict};
+use tally::Tally;
 
-/// Random cases in a batch.
-const BATCH: u64 = 500;
+/// The most cases in a batch, and about the most bytes.
+const BATCH: usize = 500;
+const BATCH_BYTES: usize = 1 << 20;
 /// How often a line says how far the comparison is.
 const PROGRESS: Duration = Duration::from_secs(10);
-/// How many differences are shown.
-const SHOWN: usize = 20;
-
-const GROUPS: [&str; 5] = ["check", "run", "weigh", "find", "edges"];
-const EDGES: usize = 4;
 
 /// What is asked for.
 struct Request {
+    mixture: &'static Mixture,
     folder: PathBuf,
     cases: u64,
     seed: u64,
     program: Vec<String>,
 }
 
+/// What is asked for, made ready.
+struct Comparison {
+    request: Request,
+    /// The cases at an edge, in batches.
+    edges: Vec<Vec<Sample>>,
+    positions: Option<Positions>,
+}
+
 /// A case, the group that it counts in, and the seed or number that it is found by.
-struct Sample {
+#[derive(Clone)]
+pub struct Sample {
     group: usize,
     seed: u64,
     case: Case,
-}
-
-/// What was tested, of one batch or of all so far.
-struct Tally {
-    cases: [u64; GROUPS.len()],
-    differences: [u64; GROUPS.len()],
-    /// How often each number occurred, and how often in a search for weights.
-    numbers: [u64; PAST_NUMBERS],
-    findings: [u64; PAST_NUMBERS],
-    /// What the first differences are.
-    complaints: Vec<String>,
 }
 
 /// All that was tested so far, and when.
@@ -72,82 +73,116 @@ fn main() -> ExitCode {
 }
 
 fn compare_all() -> Result<ExitCode, Trouble> {
-    let usage = || tools::usage("compare FOLDER CASES SEED PROGRAM [ARGUMENT...]");
     let request = Request::read().ok_or_else(usage)?;
     tools::find(&request.program[0])?;
-    let progress = Mutex::new(Progress::new());
+    let comparison = Comparison::new(request)?;
+    let progress = Mutex::new(Progress::new(comparison.request.mixture));
     let next = AtomicU64::new(0);
     let workers = thread::available_parallelism().map_or(1, usize::from);
     thread::scope(|scope| {
-        let (request, next, progress) = (&request, &next, &progress);
-        let start = |worker| scope.spawn(move || work(request, worker, next, progress));
+        let (comparison, next, progress) = (&comparison, &next, &progress);
+        let start = |worker| scope.spawn(move || work(comparison, worker, next, progress));
         let started: Vec<_> = (0..workers).map(start).collect();
         let mut ended = started.into_iter().map(|worker| worker.join());
         ended.try_for_each(|worker| worker.expect("no worker panics"))
     })?;
     let progress = progress.into_inner().expect("no worker panics");
-    progress.tell(request.cases);
-    Ok(progress.tally.report(request.cases))
+    let wanted = comparison.request.cases;
+    progress.tell(wanted);
+    Ok(progress.tally.report(wanted, &comparison.positions))
+}
+
+fn usage() -> Trouble {
+    let names = MIXTURES.iter().map(|mixture| mixture.name);
+    let names: Vec<&str> = names.collect();
+    tools::usage(&format!(
+        "compare MIXTURE FOLDER CASES SEED PROGRAM [ARGUMENT...], with MIXTURE of {}",
+        names.join(", ")
+    ))
 }
 
 impl Request {
     fn read() -> Option<Request> {
         let mut arguments = env::args().skip(1);
+        let name = arguments.next()?;
         Some(Request {
+            mixture: MIXTURES.iter().find(|mixture| mixture.name == name)?,
             folder: PathBuf::from(arguments.next()?),
             cases: arguments.next()?.parse().ok()?,
             seed: arguments.next()?.parse().ok()?,
             program: Some(arguments.collect()).filter(|words: &Vec<_>| !words.is_empty())?,
         })
     }
+}
 
-    /// A batch by its number, of which the first one is the edges; nothing behind the last one.
+impl Comparison {
+    fn new(request: Request) -> io::Result<Comparison> {
+        let cases = (request.mixture.edges)()?;
+        Ok(Comparison {
+            edges: edge_batches(request.mixture, cases),
+            positions: (request.mixture.positions)(),
+            request,
+        })
+    }
+
+    /// A batch by its number, the edges first; nothing behind the last one.
     fn batch(&self, number: u64) -> Option<Vec<Sample>> {
-        if number == 0 {
-            return Some(edge_samples());
+        if let Some(batch) = self.edges.get(number as usize) {
+            return Some(batch.clone());
         }
-        let first = (number - 1) * BATCH;
-        let last = self.cases.min(first + BATCH);
-        let sample = |at| random_sample(self.seed.wrapping_mul(1 << 32).wrapping_add(at));
+        let request = &self.request;
+        let first = (number - self.edges.len() as u64) * BATCH as u64;
+        let last = request.cases.min(first + BATCH as u64);
+        let seed = |at| request.seed.wrapping_mul(1 << 32).wrapping_add(at);
+        let sample = |at| random_sample(request.mixture, seed(at));
         (first < last).then(|| (first..last).map(sample).collect())
     }
 }
 
-/// The tables at every edge, the longest ones included, checked and searched for weights; and the
-/// longest searches.
-fn edge_samples() -> Vec<Sample> {
-    let tables = edges::tables().into_iter().chain(edges::longest_tables(1));
-    let cases = tables.map(Case::check).chain(finding::edge_cases());
-    let sample = |(at, case)| Sample {
-        group: EDGES,
-        seed: at as u64,
-        case,
-    };
-    cases.enumerate().map(sample).collect()
+/// The cases at an edge, in batches that are not too long.
+fn edge_batches(mixture: &Mixture, cases: Vec<Case>) -> Vec<Vec<Sample>> {
+    let mut batches = Vec::new();
+    let (mut batch, mut bytes) = (Vec::new(), 0);
+    for (at, case) in cases.into_iter().enumerate() {
+        bytes += case.table.len();
+        batch.push(Sample {
+            group: mixture.calls.len(),
+            seed: at as u64,
+            case,
+        });
+        if batch.len() == BATCH || bytes >= BATCH_BYTES {
+            batches.push(batch);
+            (batch, bytes) = (Vec::new(), 0);
+        }
+    }
+    batches.push(batch);
+    batches.retain(|batch| !batch.is_empty());
+    batches
 }
 
-fn random_sample(seed: u64) -> Sample {
-    let case = any_case(seed);
-    let group = match case.call {
-        Call::Check => 0,
-        Call::Run => 1,
-        Call::Weigh => 2,
-        Call::FindWeights => 3,
-    };
-    Sample { group, seed, case }
+fn random_sample(mixture: &Mixture, seed: u64) -> Sample {
+    let case = (mixture.any_case)(seed);
+    let mut calls = mixture.calls.iter();
+    let group = calls.position(|call| *call == case.call);
+    Sample {
+        group: group.expect("a call of the mixture"),
+        seed,
+        case,
+    }
 }
 
 /// Takes batches until none is left.
 fn work(
-    request: &Request,
+    comparison: &Comparison,
     worker: usize,
     next: &AtomicU64,
     progress: &Mutex<Progress>,
 ) -> io::Result<()> {
+    let request = &comparison.request;
     let file = request.folder.join(format!("cases-{}", worker));
-    while let Some(batch) = request.batch(next.fetch_add(1, Ordering::Relaxed)) {
+    while let Some(batch) = comparison.batch(next.fetch_add(1, Ordering::Relaxed)) {
         let lines = printed(&request.program, &file, &batch)?;
-        let tally = compare(&batch, &lines);
+        let tally = compare(comparison, &batch, &lines);
         let mut progress = progress.lock().expect("no worker panics");
         progress.tally.add(tally);
         if progress.told.elapsed() >= PROGRESS {
@@ -181,12 +216,15 @@ fn printed(program: &[String], file: &Path, batch: &[Sample]) -> io::Result<Vec<
 }
 
 /// Compares what was printed with what the reference expects, line by line.
-fn compare(batch: &[Sample], lines: &[String]) -> Tally {
-    let mut tally = Tally::new();
+fn compare(comparison: &Comparison, batch: &[Sample], lines: &[String]) -> Tally {
+    let mut tally = Tally::new(comparison.request.mixture);
     let mut lines = lines.iter();
     for sample in batch {
         let expected = verdict::reference(&sample.case);
-        tally.count(sample, expected.outcome.number as usize);
+        let (text, outcome) = (&sample.case.table, &expected.outcome);
+        let positions = comparison.positions.as_ref();
+        let refusal = positions.and_then(|positions| positions.refusal(text, outcome));
+        tally.count(sample, outcome.number as usize, refusal);
         let expected = stored::line(&sample.case, &expected);
         let line = lines.next().map_or("nothing", String::as_str);
         if line != expected {
@@ -200,89 +238,11 @@ fn compare(batch: &[Sample], lines: &[String]) -> Tally {
     tally
 }
 
-impl Tally {
-    fn new() -> Tally {
-        Tally {
-            cases: [0; GROUPS.len()],
-            differences: [0; GROUPS.len()],
-            numbers: [0; PAST_NUMBERS],
-            findings: [0; PAST_NUMBERS],
-            complaints: Vec::new(),
-        }
-    }
-
-    /// Adds another one, and shows its complaints as long as few were shown.
-    fn add(&mut self, other: Tally) {
-        let sum = |to: &mut [u64], from: &[u64]| {
-            to.iter_mut().zip(from).for_each(|(a, b)| *a += b);
-        };
-        sum(&mut self.cases, &other.cases);
-        sum(&mut self.differences, &other.differences);
-        sum(&mut self.numbers, &other.numbers);
-        sum(&mut self.findings, &other.findings);
-        for complaint in other.complaints {
-            if self.complaints.len() < SHOWN {
-                println!("{}", complaint);
-                self.complaints.push(complaint);
-            }
-        }
-    }
-
-    fn count(&mut self, sample: &Sample, number: usize) {
-        self.cases[sample.group] += 1;
-        self.numbers[number] += 1;
-        if sample.case.call == Call::FindWeights {
-            self.findings[number] += 1;
-        }
-    }
-
-    fn differ(&mut self, sample: &Sample, what: &str) {
-        self.differences[sample.group] += 1;
-        if self.complaints.len() < SHOWN {
-            let complaint = format!("{} case {}: {}", GROUPS[sample.group], sample.seed, what);
-            self.complaints.push(complaint);
-        }
-    }
-
-    fn random_cases(&self) -> u64 {
-        self.cases.iter().sum::<u64>() - self.cases[EDGES]
-    }
-
-    /// Prints the counts; the last line is `N passed, M failed` over the groups and the numbers.
-    fn report(&self, wanted: u64) -> ExitCode {
-        let mut failed = 0;
-        for (group, name) in GROUPS.iter().enumerate() {
-            let (cases, differences) = (self.cases[group], self.differences[group]);
-            println!("{}: {} cases, {} differ", name, cases, differences);
-            failed += usize::from(differences > 0 || cases == 0);
-        }
-        let of_all = each_occurred("of all calls", &table_numbers(), &self.numbers);
-        let of_find = each_occurred("of the search for weights", &findings(), &self.findings);
-        let complete = self.random_cases() == wanted && of_all && of_find;
-        failed += usize::from(!complete);
-        println!("{} passed, {} failed", GROUPS.len() + 1 - failed, failed);
-        ExitCode::from(u8::from(failed > 0))
-    }
-}
-
-/// Prints how often each of these numbers occurred; whether all of them did.
-fn each_occurred(whose: &str, numbers: &[u32], counts: &[u64]) -> bool {
-    let count = |number: &u32| counts[*number as usize];
-    let each = numbers.iter().map(|n| format!("{}: {}", n, count(n)));
-    let each: Vec<String> = each.collect();
-    println!(
-        "how often each number {} occurred: {}",
-        whose,
-        each.join(", ")
-    );
-    numbers.iter().all(|number| count(number) > 0)
-}
-
 impl Progress {
-    fn new() -> Progress {
+    fn new(mixture: &'static Mixture) -> Progress {
         let now = Instant::now();
         Progress {
-            tally: Tally::new(),
+            tally: Tally::new(mixture),
             start: now,
             told: now,
         }
