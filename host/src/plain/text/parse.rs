@@ -1,112 +1,89 @@
 //! A text's table, written as the text is read.
 
-use super::token::{NoToken, Token, Tokens, QUOTIENT};
+use super::token::{Kind, NoToken, Tokens, QUOTIENT};
 use crate::format::{
     body_len, BODY_FACT, BODY_FAIL, END, EXPRESSION_LEN, GUARD, KEPT, PLACES, REMOVED, RULE,
     SLOT_LEN, SYMBOL,
 };
 use crate::outcome::Refusal;
 
-/// Why a text is refused; a token out of place comes behind every byte that is no token.
+/// Why a text is refused where the next token should begin, or begins.
 enum Fault {
-    NoToken(usize),
-    OutOfPlace(usize),
+    NoToken,
+    OutOfPlace,
 }
 
 impl From<NoToken> for Fault {
-    fn from(NoToken(at): NoToken) -> Fault {
-        Fault::NoToken(at)
+    fn from(_: NoToken) -> Fault {
+        Fault::NoToken
     }
 }
+
+type Parsed = Result<(), Fault>;
 
 /// Writes the table that a text stands for, or says why it stands for none (49, 50).
 pub fn table(text: &[u8], table: &mut Vec<u8>) -> Result<(), Refusal> {
     table.clear();
     let mut parser = Parser {
         tokens: Tokens::new(text),
-        token: Token::End,
-        start: 0,
         table,
     };
     match parser.text() {
         Ok(()) => Ok(()),
-        Err(Fault::NoToken(at)) => Err(Refusal::at(49, at)),
-        Err(Fault::OutOfPlace(place)) => Err(match parser.no_token() {
-            Some(NoToken(at)) => Refusal::at(49, at),
-            None => Refusal::at(50, place),
-        }),
+        Err(Fault::NoToken) => Err(Refusal::at(49, parser.tokens.start)),
+        Err(Fault::OutOfPlace) => Err(parser.out_of_place()),
     }
 }
 
-/// The next token with its first byte, and the table so far.
+/// The next token, and the table so far.
 struct Parser<'a> {
     tokens: Tokens<'a>,
-    token: Token,
-    start: usize,
     table: &'a mut Vec<u8>,
 }
 
-type Parsed<T> = Result<T, Fault>;
-
 impl Parser<'_> {
-    /// The first byte behind the next token that begins none.
-    fn no_token(&mut self) -> Option<NoToken> {
-        loop {
-            match self.tokens.next() {
-                Ok((Token::End, _)) => return None,
-                Ok(_) => {}
-                Err(none) => return Some(none),
+    /// Refuses the next token for its place, unless what is no token stands behind it.
+    fn out_of_place(&mut self) -> Refusal {
+        let place = self.tokens.start;
+        while self.tokens.kind != Kind::End {
+            if self.tokens.advance().is_err() {
+                return Refusal::at(49, self.tokens.start);
             }
         }
+        Refusal::at(50, place)
     }
 
-    #[inline]
-    fn advance(&mut self) -> Parsed<()> {
-        let (token, start) = self.tokens.next()?;
-        self.token = token;
-        self.start = start;
-        Ok(())
-    }
-
-    /// The fault that the next token, or the end, is out of place.
-    fn out_of_place<T>(&self) -> Parsed<T> {
-        Err(Fault::OutOfPlace(self.start))
-    }
-
-    fn expect(&mut self, token: Token) -> Parsed<()> {
-        if self.token != token {
-            return self.out_of_place();
+    fn expect(&mut self, kind: Kind) -> Parsed {
+        if self.tokens.kind != kind {
+            return Err(Fault::OutOfPlace);
         }
-        self.advance()
+        Ok(self.tokens.advance()?)
     }
 
     /// Takes a token if it is next.
     #[inline]
-    fn take(&mut self, token: Token) -> Parsed<bool> {
-        let here = self.token == token;
+    fn take(&mut self, kind: Kind) -> Result<bool, Fault> {
+        let here = self.tokens.kind == kind;
         if here {
-            self.advance()?;
+            self.tokens.advance()?;
         }
         Ok(here)
     }
 
-    fn symbol(&mut self) -> Parsed<u8> {
-        match self.token {
-            Token::Symbol(symbol) => {
-                self.advance()?;
-                Ok(symbol)
-            }
-            _ => self.out_of_place(),
-        }
+    /// Takes a symbol: its number.
+    fn symbol(&mut self) -> Result<u8, Fault> {
+        let number = self.tokens.value as u8;
+        self.expect(Kind::Symbol)?;
+        Ok(number)
     }
 
-    fn text(&mut self) -> Parsed<()> {
-        self.advance()?;
+    fn text(&mut self) -> Parsed {
+        self.tokens.advance()?;
         let mut declared = 0;
         let mut in_rules = false;
-        while self.token != Token::End {
+        while self.tokens.kind != Kind::End {
             let symbol = self.symbol()?;
-            let slash = self.token == Token::Operation(QUOTIENT);
+            let slash = self.tokens.kind == Kind::Operation && self.tokens.value == QUOTIENT;
             if slash && symbol == declared && !in_rules {
                 self.declaration()?;
                 declared += 1;
@@ -120,38 +97,34 @@ impl Parser<'_> {
     }
 
     /// A declaration behind its symbol.
-    fn declaration(&mut self) -> Parsed<()> {
-        self.advance()?;
-        match self.token {
-            Token::Constant(arity @ 0..=4) => self.table.extend([SYMBOL, arity as u8]),
-            _ => return self.out_of_place(),
+    fn declaration(&mut self) -> Parsed {
+        self.tokens.advance()?;
+        let arity = self.tokens.value;
+        if self.tokens.kind != Kind::Constant || !(0..=PLACES as i32).contains(&arity) {
+            return Err(Fault::OutOfPlace);
         }
-        self.advance()?;
-        self.expect(Token::Dot)
+        self.table.extend([SYMBOL, arity as u8]);
+        self.tokens.advance()?;
+        self.expect(Kind::Dot)
     }
 
     /// A rule behind its first symbol.
-    fn rule(&mut self, symbol: u8) -> Parsed<()> {
+    fn rule(&mut self, symbol: u8) -> Parsed {
         self.table.push(RULE);
         let first = self.table.len();
         self.heads(KEPT, symbol)?;
-        match self.token {
-            Token::Kept => {
-                self.advance()?;
-                let symbol = self.symbol()?;
-                self.heads(REMOVED, symbol)?;
-                self.expect(Token::Removes)?;
-            }
-            Token::Removes => {
-                self.advance()?;
-                self.remove_from(first);
-            }
-            Token::Keeps => self.advance()?,
-            _ => return self.out_of_place(),
+        if self.take(Kind::Kept)? {
+            let symbol = self.symbol()?;
+            self.heads(REMOVED, symbol)?;
+            self.expect(Kind::Removes)?;
+        } else if self.take(Kind::Removes)? {
+            self.remove_from(first);
+        } else {
+            self.expect(Kind::Keeps)?;
         }
         self.guards()?;
         self.body()?;
-        self.expect(Token::Dot)
+        self.expect(Kind::Dot)
     }
 
     /// Makes all heads from a place on removed ones.
@@ -162,10 +135,10 @@ impl Parser<'_> {
     }
 
     /// Heads behind their first symbol.
-    fn heads(&mut self, kind: u8, mut symbol: u8) -> Parsed<()> {
+    fn heads(&mut self, kind: u8, mut symbol: u8) -> Parsed {
         loop {
             self.fact(kind, symbol, SLOT_LEN, Parser::slot)?;
-            if !self.take(Token::Comma)? {
+            if !self.take(Kind::Comma)? {
                 return Ok(());
             }
             symbol = self.symbol()?;
@@ -173,29 +146,30 @@ impl Parser<'_> {
     }
 
     /// A symbol's arguments, if it has any, in a record of its own.
+    #[inline]
     fn fact(
         &mut self,
         kind: u8,
         symbol: u8,
         width: usize,
-        argument: fn(&mut Self, usize) -> Parsed<()>,
-    ) -> Parsed<()> {
+        argument: fn(&mut Self, usize) -> Parsed,
+    ) -> Parsed {
         let at = self.record(kind);
         self.table[at + 1] = symbol;
-        if !self.take(Token::Open)? {
+        if !self.take(Kind::Open)? {
             return Ok(());
         }
         for place in 0..PLACES {
             argument(self, at + 2 + place * width)?;
-            if place + 1 == PLACES || self.token != Token::Comma {
+            if place + 1 == PLACES || !self.take(Kind::Comma)? {
                 break;
             }
-            self.advance()?;
         }
-        self.expect(Token::Close)
+        self.expect(Kind::Close)
     }
 
     /// A new record, all zero behind its kind: where it begins.
+    #[inline]
     fn record(&mut self, kind: u8) -> usize {
         let at = self.table.len();
         self.table.resize(at + record_len(kind), 0);
@@ -204,59 +178,58 @@ impl Parser<'_> {
     }
 
     #[inline]
-    fn slot(&mut self, at: usize) -> Parsed<()> {
-        let (tag, value) = match self.token {
-            Token::Constant(value) => (1, value),
-            Token::Variable(number) => (2, i32::from(number)),
-            _ => return self.out_of_place(),
+    fn slot(&mut self, at: usize) -> Parsed {
+        let tag = match self.tokens.kind {
+            Kind::Constant => 1,
+            Kind::Variable => 2,
+            _ => return Err(Fault::OutOfPlace),
         };
-        self.table[at] = tag;
-        self.table[at + 1..at + SLOT_LEN].copy_from_slice(&value.to_le_bytes());
-        self.advance()
+        let slot = &mut self.table[at..at + SLOT_LEN];
+        slot[0] = tag;
+        slot[1..].copy_from_slice(&self.tokens.value.to_le_bytes());
+        Ok(self.tokens.advance()?)
     }
 
-    fn expression(&mut self, at: usize) -> Parsed<()> {
+    #[inline]
+    fn expression(&mut self, at: usize) -> Parsed {
         self.slot(at + 1)?;
-        if let Token::Operation(operation) = self.token {
-            self.table[at] = operation;
-            self.advance()?;
+        if self.tokens.kind == Kind::Operation {
+            self.table[at] = self.tokens.value as u8;
+            self.tokens.advance()?;
             self.slot(at + 1 + SLOT_LEN)?;
         }
         Ok(())
     }
 
     /// The guards and the bar behind them, if a value is next.
-    fn guards(&mut self) -> Parsed<()> {
-        if !matches!(self.token, Token::Constant(_) | Token::Variable(_)) {
+    fn guards(&mut self) -> Parsed {
+        if !self.tokens.is_value() {
             return Ok(());
         }
         loop {
             let at = self.record(GUARD);
             self.expression(at + 2)?;
-            match self.token {
-                Token::Comparator(comparator) => self.table[at + 1] = comparator,
-                _ => return self.out_of_place(),
-            }
-            self.advance()?;
+            self.table[at + 1] = self.tokens.value as u8;
+            self.expect(Kind::Comparator)?;
             self.expression(at + 2 + EXPRESSION_LEN)?;
-            if !self.take(Token::Comma)? {
-                return self.expect(Token::Bar);
+            if !self.take(Kind::Comma)? {
+                return self.expect(Kind::Bar);
             }
         }
     }
 
-    fn body(&mut self) -> Parsed<()> {
-        if self.take(Token::True)? {
+    fn body(&mut self) -> Parsed {
+        if self.take(Kind::True)? {
             return Ok(());
         }
         loop {
-            if self.take(Token::Fail)? {
+            if self.take(Kind::Fail)? {
                 self.table.push(BODY_FAIL);
             } else {
                 let symbol = self.symbol()?;
                 self.fact(BODY_FACT, symbol, EXPRESSION_LEN, Parser::expression)?;
             }
-            if !self.take(Token::Comma)? {
+            if !self.take(Kind::Comma)? {
                 return Ok(());
             }
         }
