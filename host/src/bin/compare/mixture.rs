@@ -63,7 +63,7 @@ const TEXTS: Mixture = Mixture {
 };
 
 /// Every mixture there is.
-pub const MIXTURES: [Mixture; 2] = [TABLES, TEXTS];
+pub static MIXTURES: [Mixture; 2] = [TABLES, TEXTS];
 
 fn numbers(whose: &'static str, calls: &'static [Call], numbers: Vec<u32>) -> Numbers {
     Numbers {

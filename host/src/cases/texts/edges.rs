@@ -69,7 +69,7 @@ pub fn long_cases() -> Vec<Case> {
         let zeros = "0".repeat(len - 5);
         texts.push(format!("s0/{}1.", zeros).into_bytes());
         texts.push("9".repeat(len).into_bytes());
-        texts.push("s0\n".repeat(len / 3 + 1)[..len].as_bytes().to_vec());
+        texts.push(b"s0\n".repeat(len / 3 + 1)[..len].to_vec());
         for sort in MANY {
             texts.push(many_of(sort, len));
             let declared = [b"s0/0.".to_vec(), many_of(sort, len - 5)];
@@ -81,22 +81,20 @@ pub fn long_cases() -> Vec<Case> {
         let short = case.answer_len - 1;
         found.push(Case::read_text(case.table.clone(), short));
     }
-    found.extend(longest_printed());
+    found.extend(there_and_back(longest_printed()));
+    found.push(Case::print_text(longest_printed(), MAX_TEXT));
     found
 }
 
-/// The table whose text is the longest that is printed, printed and read.
-fn longest_printed() -> Vec<Case> {
+/// The good table whose text is the longest that is printed.
+pub fn longest_printed() -> Vec<u8> {
     let lowest = constant(i32::MIN);
     let both = of(DIFFERENCE, lowest, lowest);
     let heads = Rule::new().keep(31, &[lowest; 4]).keep(30, &[lowest; 4]);
     let heads = heads.remove(29, &[lowest; 4]).remove(28, &[lowest; 4]);
     let guards = (0..4).fold(heads, |rule, _| rule.guard(both, UNEQUAL, both));
     let rule = (0..4).fold(guards, |rule, _| rule.add(31, &[both; 4]));
-    let table = table(&[4; 32], &vec![rule; 64]);
-    let mut found = there_and_back(table.clone());
-    found.push(Case::print_text(table, MAX_TEXT));
-    found
+    table(&[4; 32], &vec![rule; 64])
 }
 
 /// A good table printed and its text read, with just enough room and with one byte less.

@@ -30,7 +30,8 @@ pub fn text(table: &Table) -> String {
     declarations.chain(table.rules.iter().map(rule)).collect()
 }
 
-fn rule(rule: &Rule) -> String {
+/// A rule's line.
+pub fn rule(rule: &Rule) -> String {
     let guards = match rule.guards.is_empty() {
         true => String::new(),
         false => format!("{} | ", listed(&rule.guards, comparison)),
