@@ -29,7 +29,7 @@ pub fn any_case(seed: u64) -> Case {
 
 /// A text to read that is no long one.
 pub fn read_case(random: &mut Random) -> Case {
-    match random.below(80) {
+    match random.below(90) {
         0..=16 => good_case(random),
         17..=37 => damaged_words_case(random),
         38..=57 => damaged_bytes_case(random),

@@ -10,20 +10,30 @@ use crate::reference::text::read::stands_for;
 
 /// A long text: padded, with a long constant, with very many parts, or that of a full table.
 pub fn case(random: &mut Random) -> Case {
-    let text = match random.below(10) {
+    let mut text = match random.below(10) {
         0..=2 => padded(random),
         3 => long_constant(random),
         4..=7 => many(random),
         _ => full(random),
     };
+    if random.chance(25) {
+        damage_end(random, &mut text);
+    }
     let len = stands_for(&text).map_or(LONGEST_TABLE, |table| table.len());
     let room = *random.pick(&[len, len, len - 1, LONGEST_TABLE, 0]);
     Case::read_text(text, room)
 }
 
+/// Damages one of the last bytes.
+fn damage_end(random: &mut Random, text: &mut Vec<u8>) {
+    let mut end = text.split_off(text.len().saturating_sub(20));
+    damage::bytes(random, &mut end);
+    text.extend(end);
+}
+
 /// The greatest length, or one less or more.
 fn near_the_end(random: &mut Random) -> usize {
-    *random.pick(&[MAX_TEXT - 1, MAX_TEXT, MAX_TEXT, MAX_TEXT + 1])
+    *random.pick(&[MAX_TEXT - 1, MAX_TEXT, MAX_TEXT + 1])
 }
 
 /// A good text, or one that is cut off or has a damaged word, with as much space between two words as
