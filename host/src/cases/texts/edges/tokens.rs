@@ -44,12 +44,15 @@ fn alone() -> Vec<Vec<u8>> {
     found
 }
 
-/// Each byte by itself, and between two statements.
+/// Each byte by itself, between two statements, and directly behind and before a run of letters and
+/// digits.
 fn single_bytes() -> Vec<Vec<u8>> {
     let mut found = Vec::new();
     for byte in 0..=255 {
         found.push(vec![byte]);
         found.push([b"s0/0.", &[byte][..], b"s0<=>true."].concat());
+        found.push([b"s0", &[byte][..], b"<=>true."].concat());
+        found.push([b"s0<=>", &[byte][..], b"7<0|true."].concat());
     }
     found
 }
