@@ -18,27 +18,38 @@ fn any_words() -> Vec<&'static str> {
     words
 }
 
-/// Each position with nothing behind it, and with each word. Every second text has no spaces.
+/// Each position with nothing behind it, and with each word. Every second text has no spaces, unless
+/// two words would become one.
 fn pairs() -> Vec<Vec<u8>> {
     let positions = Positions::all();
     let mut found = Vec::new();
     for position in positions.list() {
-        found.push(joined(position, &[], " "));
+        found.push(position.words.join(" ").into_bytes());
         for word in any_words() {
-            let between = match found.len() % 2 {
-                0 => " ",
-                _ => "",
+            let between = match found.len() % 2 == 0 || meets(position, word) {
+                true => " ",
+                false => "",
             };
-            found.push(joined(position, &[word], between));
+            let words = [&position.words[..], &[word]].concat();
+            found.push(words.join(between).into_bytes());
         }
     }
     found
 }
 
-fn joined(position: &Position, more: &[&str], between: &str) -> Vec<u8> {
-    let words = [&position.words[..], more].concat();
-    words.join(between).into_bytes()
+/// Whether a word behind a position goes on with its last run of letters and digits.
+fn meets(position: &Position, word: &str) -> bool {
+    let in_run = |byte: Option<u8>| byte.map_or(false, |byte| byte.is_ascii_alphanumeric());
+    let last = position.words.last().and_then(|last| last.bytes().last());
+    in_run(last) && in_run(word.bytes().next())
 }
+
+/// What stands for an arity, good or bad.
+#[rustfmt::skip]
+const ARITIES: [&str; 27] = [
+    "0", "1", "2", "3", "4", "5", "6", "9", "-1", "-0", "-4", "04", "05", "00", "000004", "10",
+    "256", "260", "65536", "65540", "4294967296", "V0", "s0", "true", "(1)", "1+1", "",
+];
 
 /// So many declarations, and what may follow them or not.
 fn declarations() -> Vec<Vec<u8>> {
@@ -52,35 +63,7 @@ fn declarations() -> Vec<Vec<u8>> {
             }
         }
     }
-    for arity in [
-        "0",
-        "1",
-        "2",
-        "3",
-        "4",
-        "5",
-        "6",
-        "9",
-        "-1",
-        "-0",
-        "-4",
-        "04",
-        "05",
-        "00",
-        "000004",
-        "10",
-        "256",
-        "260",
-        "65536",
-        "65540",
-        "4294967296",
-        "V0",
-        "s0",
-        "true",
-        "(1)",
-        "1+1",
-        "",
-    ] {
+    for arity in ARITIES {
         found.push(format!("s0/{}.", arity).into_bytes());
         found.push(format!("s0/0.s1/{}.s0<=>true.", arity).into_bytes());
     }
@@ -108,82 +91,28 @@ fn arguments() -> Vec<Vec<u8>> {
     found
 }
 
-/// Whole statements that are a text, or nearly one.
+/// Statements that are a text, or nearly one.
+#[rustfmt::skip]
+const STATEMENTS: [&str; 73] = [
+    "s0/0.s0<=>true.s0/0.", "s0/0.s0<=>true.s1/0.", "s0<=>true.s0/0.", "s0<=>true", "s0<=>.",
+    "s0.", "s0,s0.", "<=>true.", "\\s0<=>true.", "s0\\<=>true.", "s0\\s0==>true.",
+    "s0\\s0\\s0<=>true.", "s0<=>s0<=>true.", "s0==>s0<=>true.", "s0<=>true|true.",
+    "s0<=>|true.", "s0<=>0=0|", "s0<=>0=0|.", "s0<=>0=0.", "s0<=>0=0,true.",
+    "s0<=>0=0,s0|true.", "s0<=>0=0,|true.", "s0<=>,0=0|true.", "s0<=>0=0||true.",
+    "s0<=>0=0|0=0|true.", "s0<=>0=0=0|true.", "s0<=>0<=0|true.", "s0<=>0=>0|true.",
+    "s0<=>0==0|true.", "s0<=>(0=0)|true.", "s0<=>0|true.", "s0<=>V0+1|true.",
+    "s0<=>0+0+0=0|true.", "s0<=>0+=0|true.", "s0<=>+0=0|true.", "s0<=>s0=0|true.",
+    "s0<=>true,true.", "s0<=>true,fail.", "s0<=>fail,true.", "s0<=>s0,true.", "s0<=>true,s0.",
+    "s0<=>fail,fail.", "s0<=>fail(0).", "s0<=>true().", "s0<=>V0.", "s0<=>0.", "s0<=>s0,.",
+    "s0<=>,s0.", "s0<=>s0..", "s0<=>s0.s0", "s0<=>s0.s0.", "s0<=>s0;s0.", "fail<=>true.",
+    "true<=>true.", "V0<=>true.", "0<=>true.", "s0,fail<=>true.", "s0,<=>true.",
+    "s0 s0<=>true.", "s0(V0<=>true.", "s0 V0)<=>true.", "s0((V0))<=>true.",
+    "s0(V0)(V0)<=>true.", "s0(V0 V0)<=>true.", "s0(V0,)<=>true.", "s0(,V0)<=>true.",
+    "s0(V0+1)<=>true.", "s0(V0=1)<=>true.", "rule@s0<=>true.", "% a comment\ns0<=>true.",
+    "# a comment\ns0<=>true.", "s0<=>true.%", "s0/1. % a comment",
+];
+
+/// Each statement by itself.
 fn statements() -> Vec<Vec<u8>> {
-    let texts = [
-        "s0/0.s0<=>true.s0/0.",
-        "s0/0.s0<=>true.s1/0.",
-        "s0<=>true.s0/0.",
-        "s0<=>true",
-        "s0<=>.",
-        "s0.",
-        "s0,s0.",
-        "<=>true.",
-        "\\s0<=>true.",
-        "s0\\<=>true.",
-        "s0\\s0==>true.",
-        "s0\\s0\\s0<=>true.",
-        "s0<=>s0<=>true.",
-        "s0==>s0<=>true.",
-        "s0<=>true|true.",
-        "s0<=>|true.",
-        "s0<=>0=0|",
-        "s0<=>0=0|.",
-        "s0<=>0=0.",
-        "s0<=>0=0,true.",
-        "s0<=>0=0,s0|true.",
-        "s0<=>0=0,|true.",
-        "s0<=>,0=0|true.",
-        "s0<=>0=0||true.",
-        "s0<=>0=0|0=0|true.",
-        "s0<=>0=0=0|true.",
-        "s0<=>0<=0|true.",
-        "s0<=>0=>0|true.",
-        "s0<=>0==0|true.",
-        "s0<=>(0=0)|true.",
-        "s0<=>0|true.",
-        "s0<=>V0+1|true.",
-        "s0<=>0+0+0=0|true.",
-        "s0<=>0+=0|true.",
-        "s0<=>+0=0|true.",
-        "s0<=>s0=0|true.",
-        "s0<=>true,true.",
-        "s0<=>true,fail.",
-        "s0<=>fail,true.",
-        "s0<=>s0,true.",
-        "s0<=>true,s0.",
-        "s0<=>fail,fail.",
-        "s0<=>fail(0).",
-        "s0<=>true().",
-        "s0<=>V0.",
-        "s0<=>0.",
-        "s0<=>s0,.",
-        "s0<=>,s0.",
-        "s0<=>s0..",
-        "s0<=>s0.s0",
-        "s0<=>s0.s0.",
-        "s0<=>s0;s0.",
-        "fail<=>true.",
-        "true<=>true.",
-        "V0<=>true.",
-        "0<=>true.",
-        "s0,fail<=>true.",
-        "s0,<=>true.",
-        "s0 s0<=>true.",
-        "s0(V0<=>true.",
-        "s0 V0)<=>true.",
-        "s0((V0))<=>true.",
-        "s0(V0)(V0)<=>true.",
-        "s0(V0 V0)<=>true.",
-        "s0(V0,)<=>true.",
-        "s0(,V0)<=>true.",
-        "s0(V0+1)<=>true.",
-        "s0(V0=1)<=>true.",
-        "rule@s0<=>true.",
-        "% a comment\ns0<=>true.",
-        "# a comment\ns0<=>true.",
-        "s0<=>true.%",
-        "s0/1. % a comment",
-    ];
-    texts.map(|text| text.as_bytes().to_vec()).to_vec()
+    STATEMENTS.map(|text| text.as_bytes().to_vec()).to_vec()
 }

@@ -57,6 +57,14 @@ fn single_bytes() -> Vec<Vec<u8>> {
     found
 }
 
+/// Signs of which another part would make a mark too.
+#[rustfmt::skip]
+const SIGNS: [&str; 30] = [
+    "=<=>", "===>", "<==>", "<=>=", "<=>>", "<<=>", "\\<=>", "\\==>", ">==>", "=<<", "=<=",
+    "<=<", "=>=", "\\=<", "\\=>", "\\==", "\\\\=", "==", "====>", "=\\=", "< =>", "<= >",
+    "= =>", "== >", "= <", "> =", "\\ =", "<\n=\n>", "=\r<", "<=\n>",
+];
+
 /// Every two marks with nothing between them, in places where many a first one may come.
 fn beside_each_other() -> Vec<Vec<u8>> {
     let mut found = Vec::new();
@@ -67,12 +75,7 @@ fn beside_each_other() -> Vec<Vec<u8>> {
             }
         }
     }
-    // Three and more signs of which another part would make a mark.
-    for marks in [
-        "=<=>", "===>", "<==>", "<=>=", "<=>>", "<<=>", "\\<=>", "\\==>", ">==>", "=<<", "=<=",
-        "<=<", "=>=", "\\=<", "\\=>", "\\==", "\\\\=", "==", "====>", "=\\=", "< =>", "<= >",
-        "= =>", "== >", "= <", "> =", "\\ =", "<\n=\n>", "=\r<", "<=\n>",
-    ] {
+    for marks in SIGNS {
         found.push(format!("s0{}true.", marks).into_bytes());
         found.push(format!("s0<=>V0{}1|true.", marks).into_bytes());
         found.push(format!("s0/1.s0(V0)<=>V0<1{}s0(1).", marks).into_bytes());
@@ -80,105 +83,63 @@ fn beside_each_other() -> Vec<Vec<u8>> {
     found
 }
 
+/// What stands before a minus: each sort of token, and nothing.
+#[rustfmt::skip]
+const BEFORE_MINUS: [&str; 26] = [
+    "", "s0", "V0", "5", "s0/1.", "s0/", "s0(", "s0(V0", "s0(5", "s0(V0,", "s0(V0)", "s0<=>",
+    "s0<=>V0", "s0<=>5", "s0<=>V0<", "s0<=>V0+", "s0<=>V0-", "s0<=>V0<1|", "s0<=>true",
+    "s0<=>fail", "s0<=>s0", "s0<=>s0(", "s0<=>s0(V0", "s0<=>s0(V0,5", "s0<=>s0(V0-", "s0\\",
+];
+/// A minus and what stands behind it.
+#[rustfmt::skip]
+const MINUS: [&str; 16] = [
+    "-5", "- 5", "--5", "- -5", "-\n-5", "---5", "-", "--", "-0", "-V0", "-s0", "-true", "-5a",
+    "-(5)", "-+5", "-_",
+];
+
 /// A minus behind each sort of token, with everything behind it.
 fn minuses() -> Vec<Vec<u8>> {
-    let before = [
-        "",
-        "s0",
-        "V0",
-        "5",
-        "s0/1.",
-        "s0/",
-        "s0(",
-        "s0(V0",
-        "s0(5",
-        "s0(V0,",
-        "s0(V0)",
-        "s0<=>",
-        "s0<=>V0",
-        "s0<=>5",
-        "s0<=>V0<",
-        "s0<=>V0+",
-        "s0<=>V0-",
-        "s0<=>V0<1|",
-        "s0<=>true",
-        "s0<=>fail",
-        "s0<=>s0",
-        "s0<=>s0(",
-        "s0<=>s0(V0",
-        "s0<=>s0(V0,5",
-        "s0<=>s0(V0-",
-        "s0\\",
-    ];
-    let behind = [
-        "-5", "- 5", "--5", "- -5", "-\n-5", "---5", "-", "--", "-0", "-V0", "-s0", "-true", "-5a",
-        "-(5)", "-+5", "-_",
-    ];
     let mut found = Vec::new();
-    for before in before {
-        found.extend(behind.map(|behind| [before, behind].concat().into_bytes()));
+    for before in BEFORE_MINUS {
+        found.extend(MINUS.map(|minus| [before, minus].concat().into_bytes()));
         found.push(format!("{} -5)<0|true.", before).into_bytes());
     }
     found
 }
 
+/// Numbers at the ends of the range and beyond.
+#[rustfmt::skip]
+const DIGITS: [&str; 27] = [
+    "0", "1", "4", "5", "9", "00", "04", "05", "00007", "10", "2147483646", "2147483647",
+    "2147483648", "2147483649", "2147483650", "2147483700", "3000000000", "4294967295",
+    "4294967296", "4294967300", "9999999999", "00002147483647", "00002147483648",
+    "00002147483649", "21474836470", "18446744073709551616", "18446744073709551620",
+];
+
 /// Constants at the ends of the range and beyond, with zeros in front and long.
 fn constants() -> Vec<Vec<u8>> {
-    let long_zeros = "0".repeat(400);
-    let long_nines = "9".repeat(400);
-    let mut spelled: Vec<String> = Vec::new();
-    for digits in [
-        "0",
-        "1",
-        "4",
-        "5",
-        "9",
-        "00",
-        "04",
-        "05",
-        "00007",
-        "10",
-        "2147483646",
-        "2147483647",
-        "2147483648",
-        "2147483649",
-        "2147483650",
-        "2147483700",
-        "3000000000",
-        "4294967295",
-        "4294967296",
-        "4294967300",
-        "9999999999",
-        "00002147483647",
-        "00002147483648",
-        "00002147483649",
-        "21474836470",
-        "18446744073709551616",
-        "18446744073709551620",
-        &long_zeros,
-        &long_nines,
-    ] {
-        spelled.push(digits.to_string());
-        spelled.push(format!("-{}", digits));
-    }
-    spelled.push(format!("{}2147483648", long_zeros));
-    spelled.push(format!("-{}2147483648", long_zeros));
-    spelled.iter().flat_map(|word| around(word)).collect()
+    let zeros = "0".repeat(400);
+    let mut spelled: Vec<String> = DIGITS.map(String::from).to_vec();
+    spelled.extend([zeros.clone(), "9".repeat(400)]);
+    spelled.push(format!("{}2147483648", zeros));
+    let negative = spelled.iter().map(|digits| format!("-{}", digits));
+    let all = spelled.iter().cloned().chain(negative);
+    all.flat_map(|word| around(&word)).collect()
 }
 
-/// Runs of letters and digits that are no tokens, and some that are.
+/// Runs of letters and digits that are no tokens, some that are, and some that something parts.
+#[rustfmt::skip]
+const RUNS: [&str; 56] = [
+    "s", "S0", "s00", "s01", "s09", "s31", "s32", "s39", "s40", "s99", "s100", "s310", "s0s1",
+    "s0a", "s0V0", "V", "v0", "V00", "V01", "V9", "V10", "V15", "V16", "V19", "V20", "V99",
+    "V150", "V0V1", "true", "fail", "tru", "trues0", "true1", "True", "TRUE", "truefail",
+    "fai", "fails", "false", "1a", "0x1", "1s0", "1V0", "a", "Z", "z9", "s0_", "_s0", "V_0",
+    "1_000", "1.5", "1e5", "s 0", "V 0", "tr ue", "s\n1",
+];
+
+/// Each run where a symbol, an arity, a slot or an item may stand.
 fn words() -> Vec<Vec<u8>> {
-    let mut found = Vec::new();
-    for word in [
-        "s", "S0", "s00", "s01", "s09", "s31", "s32", "s39", "s40", "s99", "s100", "s310", "s0s1",
-        "s0a", "s0V0", "V", "v0", "V00", "V01", "V9", "V10", "V15", "V16", "V19", "V20", "V99",
-        "V150", "V0V1", "true", "fail", "tru", "trues0", "true1", "True", "TRUE", "truefail",
-        "fai", "fails", "false", "1a", "0x1", "1s0", "1V0", "a", "Z", "z9", "s0_", "_s0", "V_0",
-        "1_000", "1.5", "1e5", "s 0", "V 0", "tr ue", "s\n1",
-    ] {
-        found.extend(around(word));
-    }
-    found
+    RUNS.into_iter().flat_map(around).collect()
 }
 
 /// A short good text with each byte left out, doubled or another one, and cut off at each.
