@@ -125,3 +125,52 @@ fn alike(beginning: &Beginning) -> Ways {
     let way = |way: &Vec<Form>| way.iter().map(form).collect();
     beginning.ways().iter().map(way).collect()
 }
+
+#[cfg(test)]
+mod tests {
+    use super::*;
+
+    /// The fewest words with which a text is complete behind a position.
+    fn words_to_a_text(start: Beginning) -> usize {
+        let mut seen = BTreeSet::new();
+        let mut left = VecDeque::from([(start, 0)]);
+        while let Some((beginning, words)) = left.pop_front() {
+            if beginning.is_text() {
+                return words;
+            }
+            if seen.insert(alike(&beginning)) {
+                let longer = |(_, token)| beginning.with(token).map(|more| (more, words + 1));
+                left.extend(all_words().into_iter().filter_map(longer));
+            }
+        }
+        panic!("no text goes on here");
+    }
+
+    #[test]
+    fn every_position_leads_to_a_text() {
+        let positions = Positions::all();
+        assert_eq!(positions.list().len(), 58);
+        for position in positions.list() {
+            let text = position.words.join(" ");
+            let beginning = beginning(text.as_bytes()).expect("a beginning");
+            let words = words_to_a_text(beginning);
+            assert_eq!(words == 0, position.is_text);
+            assert!(words <= 6, "{} behind {}", words, text);
+        }
+    }
+
+    #[test]
+    fn a_text_is_refused_at_the_position_that_its_words_come_to() {
+        let positions = Positions::all();
+        let told = |text: &str, number, place| {
+            let outcome = Outcome::from(crate::outcome::Refusal::at(number, place));
+            positions.refusal(text.as_bytes(), &outcome)
+        };
+        let behind = |why: &str| Some(format!("{} behind 's0 ( V0'", why));
+        assert_eq!(told("s7 ( 5 _", 49, 7), behind("no token"));
+        assert_eq!(told("s7(5.", 50, 4), behind("another token"));
+        assert_eq!(told("s7(5", 50, 4), behind("the end"));
+        assert_eq!(told(") _", 49, 2), Some(BEHIND.to_string()));
+        assert_eq!(told("s7", 51, 0), None);
+    }
+}

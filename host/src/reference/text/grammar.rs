@@ -16,6 +16,7 @@
 //! item        = "fail" | symbol [ "(" expression { "," expression } ")" ]   at most four expressions
 //! ```
 
+use self::Form::{Any, Declarations, Either, One, Row, UpTo};
 use super::marks::{COMPARATORS, OPERATIONS};
 use super::token::{Placed, Token};
 use crate::format::{MAX_SYMBOLS, PLACES};
@@ -55,13 +56,12 @@ pub enum Form {
     Declarations(u8),
 }
 
-use Form::{Any, Declarations, Either, One, Row, UpTo};
-
 const COMMA: Form = One(Class::Mark(","));
 const DOT: Form = One(Class::Mark("."));
 const OPEN: Form = One(Class::Mark("("));
 const CLOSE: Form = One(Class::Mark(")"));
 
+/// The whole grammar.
 pub const TEXT: Form = Row(&[Declarations(0), Any(&RULE)]);
 
 const RULE: Form = Either(&[
