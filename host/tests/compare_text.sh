@@ -9,7 +9,6 @@ few=500
 begin_comparing texts "${2:-1}"
 
 # Agreement says something only if a difference is found: one digit of a table, a place, a length, a line too few.
-finds "5 passed, 0 failed" "$few" "${replay[@]}"
 edited '/^T 0 /s/. keeps$/x keeps/'
 finds "3 passed, 2 failed" "$few" "${program[@]}"
 edited '/^T 50 /s/^T 50 [0-9]*/T 50 7/'
