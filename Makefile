@@ -9,11 +9,14 @@ demo:
 test:
 	@scripts/gate
 
-# Many more random cases through the C interface than the gate runs: make soak CASES=1000000 SEED=3 for others.
+# Many more random cases through the C interface than the gate runs, of tables and of texts: make soak CASES=1000000 TEXTS=1000000 SEED=3
+# for others.
 CASES ?= 20000000
+TEXTS ?= 5000000
 SEED ?= 2
 soak:
 	@bash host/tests/compare.sh $(CASES) $(SEED)
+	@bash host/tests/compare_text.sh $(TEXTS) $(SEED)
 
 # The static library for C on x86-64, and how to link it and run what it is linked into.
 lib:

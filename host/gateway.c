@@ -52,7 +52,11 @@ static const struct ending endings[] = {
     {NADHIRUKH_ANSWER_TOO_SHORT, "the answer buffer is shorter than 2,816 bytes"},
     {NADHIRUKH_WEIGHT_COUNT, "there are not as many weights as symbols"},
     {NADHIRUKH_ZERO_WEIGHT, "a weight is zero; the place is its symbol"},
-    {NADHIRUKH_NO_WEIGHT_LOST, "a rule does not lose weight; the place is the rule"}
+    {NADHIRUKH_NO_WEIGHT_LOST, "a rule does not lose weight; the place is the rule"},
+    {NADHIRUKH_TEXT_TOO_LONG, "the text is longer than 65,536 bytes"},
+    {NADHIRUKH_NO_TOKEN, "the text has no token here; the place is the byte"},
+    {NADHIRUKH_NOT_IN_GRAMMAR, "the text does not follow the grammar; the place is the first token that cannot stand there, or the end"},
+    {NADHIRUKH_NO_ROOM, "there is no room for the table or the text"}
 };
 
 enum { ENDINGS = sizeof endings / sizeof endings[0] };

@@ -6,13 +6,15 @@
  * ask for the number first, and for the facts only after 0: "not done" and "done, and nothing is left" are different things, and
  * result[NADHIRUKH_STORED] may be 0 after both.
  *
- * Memory. The caller owns every buffer. A call reads what is `const`, writes the words of `result`, and of `answer`, `bound` and the
- * weights to be found what is said below, and touches nothing else. No pointer is null, also where the length is 0, and no two buffers
- * of a call overlap. Nothing is kept from call to call and nothing is allocated, so calls may be made from several threads at once,
- * each with its own buffers to write; they may read the same table, as long as nobody writes it meanwhile.
+ * Memory. The caller owns every buffer. A call reads what is `const`, writes the words of `result`, and of `answer`, `bound`, `length`,
+ * the weights to be found, the table to be read and the text to be printed what is said below, and touches nothing else. No pointer is
+ * null, also where the length is 0, and no two buffers of a call overlap. Nothing is kept from call to call and nothing is allocated, so
+ * calls may be made from several threads at once, each with its own buffers to write; they may read the same table, as long as nobody
+ * writes it meanwhile.
  *
  * Stack. Over the stored cases of this project a run took at most 18,528 bytes of machine stack on x86-64, and every other call much
  * less (docs/MEASUREMENTS.md). This is measured, not proved: allow 26,624 for a run, and 6,656 for any other call.
+ * TO BE MEASURED: nadhirukh_read_text and nadhirukh_print_text take at most so many bytes of machine stack.
  *
  * Linking. The archive is for x86-64, by the System V calling convention. Of the C library it needs `memcpy` and `memset` alone, so it
  * links without one where the program has these two. It has no data of its own.
@@ -31,7 +33,7 @@
 /* The words of a result, and how many there are. */
 #define NADHIRUKH_RESULT 6
 #define NADHIRUKH_NUMBER 0      /* how it ended: a number below */
-#define NADHIRUKH_PLACE 1       /* where: an offset in the table, a fact of the goal, a rule or a symbol, by the number */
+#define NADHIRUKH_PLACE 1       /* where: an offset in the table or the text, a fact of the goal, a rule or a symbol, by the number */
 #define NADHIRUKH_STEPS 2       /* steps taken */
 #define NADHIRUKH_FIRINGS 3     /* rules fired */
 #define NADHIRUKH_IDENTIFIERS 4 /* identifiers given to facts */
@@ -42,7 +44,10 @@
 #define NADHIRUKH_BOUND_WEIGHT 0 /* W, what the goal weighs */
 #define NADHIRUKH_BOUND_STEPS 1  /* the most steps that a run of it takes */
 
-/* The numbers of a run that was admitted. NADHIRUKH_DONE is also what a good table, a good weighing and weights that are found give. */
+/*
+ * The numbers of a run that was admitted. NADHIRUKH_DONE is also what a good table, a good weighing, weights that are found, a text that
+ * is read and a table that is printed give.
+ */
 #define NADHIRUKH_DONE 0u            /* done: the answer has the facts stored; place: 0 */
 #define NADHIRUKH_FAILED 1u          /* a rule said fail; place: 0 */
 #define NADHIRUKH_STEP_LIMIT 2u      /* the step limit is used up; place: 0 */
@@ -74,8 +79,15 @@
 #define NADHIRUKH_ZERO_WEIGHT 41u    /* a weight of zero; place: the symbol, from 0 */
 #define NADHIRUKH_NO_WEIGHT_LOST 42u /* a rule that does not lose weight; place: the rule, from 0 */
 
+/* And those of texts: */
+#define NADHIRUKH_TEXT_TOO_LONG 48u  /* a text of more than 65,536 bytes; place: 0 */
+#define NADHIRUKH_NO_TOKEN 49u       /* no token begins here; place: the byte's offset in the text */
+#define NADHIRUKH_NOT_IN_GRAMMAR 50u /* a token that cannot come here, or the end; place: its offset in the text, or the text's length */
+#define NADHIRUKH_NO_ROOM 51u        /* no room for the table or the text; place: 0 */
+
 /* How much there may be at most, and the least length of an answer buffer, in which every store has room. */
-#define NADHIRUKH_MAX_TABLE 23681u     /* bytes of a good table */
+#define NADHIRUKH_MAX_TABLE 23681u     /* bytes of a good table: room for every table that can be read */
+#define NADHIRUKH_MAX_TEXT 65536u      /* bytes of a text: room for every text that can be printed */
 #define NADHIRUKH_MAX_SYMBOLS 32u      /* symbols of a table */
 #define NADHIRUKH_MAX_RULES 64u        /* rules of a table */
 #define NADHIRUKH_MAX_GOAL_FACTS 64u   /* facts of a goal */
@@ -167,6 +179,34 @@ uint32_t nadhirukh_weigh(const uint8_t *table, size_t table_len, const uint8_t *
  */
 uint32_t nadhirukh_find_weights(const uint8_t *table, size_t table_len, uint8_t *weights, size_t weights_len,
                                 uint32_t result[NADHIRUKH_RESULT]);
+
+/*
+ * Reads a text of declarations and rules, of which docs/GUIDE.md has the grammar, to a table. Where the number is 0, the table is good,
+ * *length is its number of bytes, and these are the first bytes of `table`; the bytes behind them keep what they held. Otherwise *length
+ * is 0, and all bytes of `table` keep what they held. *length is written on every return.
+ *
+ * The tests come in the order 48, 49, 50, 51, then 19, 20 and 22. The place of 49 and 50 is in the text; that of 19, 20 and 22 is in the
+ * table that the text stands for, which is not written then. 51 says that this table, good or bad, has more than table_len bytes; with
+ * NADHIRUKH_MAX_TABLE bytes of room it says that the table is too long to be good.
+ *
+ *     static const char rules[] = "s0/2.  s0(V0, V1) \\ s0(V0, V2) <=> V1 =< V2 | true.";
+ *     static uint8_t table[NADHIRUKH_MAX_TABLE];
+ *     uint32_t result[NADHIRUKH_RESULT], length;
+ *     if (nadhirukh_read_text((const uint8_t *)rules, sizeof rules - 1, table, sizeof table, result, &length) == NADHIRUKH_DONE)
+ *         nadhirukh_run(table, length, goal, goal_len, limit, answer, sizeof answer, result);
+ */
+uint32_t nadhirukh_read_text(const uint8_t *text, size_t text_len, uint8_t *table, size_t table_len, uint32_t result[NADHIRUKH_RESULT],
+                             uint32_t *length);
+
+/*
+ * Prints a table as text, a line for each declaration and each rule. Where the number is 0, *length is the text's number of bytes, and
+ * these are the first bytes of `text`, with no zero byte behind them: the bytes there keep what they held. Reading this text gives the
+ * same table, byte for byte. Otherwise *length is 0, and all bytes of `text` keep what they held. *length is written on every return.
+ * 16 to 23 are those of a check; 51 says that the text has more than text_len bytes, which no text has where text_len is
+ * NADHIRUKH_MAX_TEXT.
+ */
+uint32_t nadhirukh_print_text(const uint8_t *table, size_t table_len, uint8_t *text, size_t text_len, uint32_t result[NADHIRUKH_RESULT],
+                              uint32_t *length);
 
 /*
  * What every caller would write anew. These are C, and tested, not proved.

@@ -1,7 +1,8 @@
 /*
- * The stored cases of crates/call_cases, read from the standard input. A case is its kind (C check, R run, W weigh, F find weights), five
- * words of 32 bits (the lengths of table, goal and weights, the step limit, the length of the answer buffer), then table, goal and
- * weights; of F the weights are what the buffer holds before the call.
+ * The stored cases of crates/call_cases, read from the standard input. A case is its kind (C check, R run, W weigh, F find weights, T
+ * read a text, P print one), five words of 32 bits (the lengths of table, goal and weights, the step limit, the length of the answer
+ * buffer), then table, goal and weights. Of F the weights are what the buffer holds before the call. Of T the text stands where the table
+ * does, and the answer buffer is the room for its table; of P it is the room for the text.
  */
 #ifndef CASES_H
 #define CASES_H

@@ -1,7 +1,7 @@
 /*
- * The functions that include/nadhirukh.h itself defines, at their edges, and the example of README.md, which the test puts into the file
- * example.h. The standard input is that of crates/run: table A, and the readings 310, 280 and 295 on segment 7. Says what is not as
- * expected, and ends with status 1 then.
+ * The functions that include/nadhirukh.h itself defines, at their edges, its example of a text, and the example of README.md, which the
+ * test puts into the file example.h. The standard input is that of crates/run: table A, and the readings 310, 280 and 295 on segment 7.
+ * Says what is not as expected, and ends with status 1 then.
  */
 #include <stdio.h>
 #include <stdlib.h>
@@ -63,6 +63,28 @@ static void symbols(void)
     expect(nadhirukh_symbols(records, sizeof records) == NADHIRUKH_MAX_SYMBOLS, "a symbol too many");
 }
 
+/* Table A printed, and read from what is printed and from the text in the header. */
+static void texts(void)
+{
+    static const char printed[] = "s0/2.\ns0(V0, V1) \\ s0(V0, V2) <=> V1 =< V2 | true.\n";
+    static const char rules[] = "s0/2.  s0(V0, V1) \\ s0(V0, V2) <=> V1 =< V2 | true.";
+    uint8_t text[sizeof printed], room[TABLE_LEN];
+    uint32_t result[NADHIRUKH_RESULT], length;
+    text[sizeof printed - 1] = 'x';
+    expect(nadhirukh_print_text(table, TABLE_LEN, text, sizeof text, result, &length) == NADHIRUKH_DONE, "table A is printed");
+    expect(length == sizeof printed - 1 && memcmp(text, printed, length) == 0, "the text of table A");
+    expect(text[length] == 'x', "no byte behind a text is written");
+    expect(nadhirukh_read_text(text, length, room, sizeof room, result, &length) == NADHIRUKH_DONE, "the text of table A is read");
+    expect(length == TABLE_LEN && memcmp(room, table, length) == 0, "a text reads back to its table");
+    memset(room, 0, sizeof room);
+    expect(nadhirukh_read_text((const uint8_t *)rules, sizeof rules - 1, room, sizeof room, result, &length) == NADHIRUKH_DONE,
+           "the header's text is read");
+    expect(length == TABLE_LEN && memcmp(room, table, length) == 0, "the header's text is table A");
+    expect(nadhirukh_read_text((const uint8_t *)rules, sizeof rules, room, sizeof room, result, &length) == NADHIRUKH_NO_TOKEN,
+           "the zero behind a string of C is no token");
+    expect(result[NADHIRUKH_PLACE] == sizeof rules - 1 && length == 0, "where there is no token");
+}
+
 /* What the README's example answers, and what it leaves where the caller keeps its estimate. */
 static void answers(enum outcome wanted, int32_t friction, const uint8_t *rules, size_t rules_len, size_t goal_len, int32_t segment)
 {
@@ -89,6 +111,7 @@ int main(void)
     expect(fread(input, 1, sizeof input, stdin) == sizeof input && getchar() == EOF, "the input's length");
     numbers();
     symbols();
+    texts();
     example();
     return 0;
 }

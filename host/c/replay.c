@@ -18,7 +18,7 @@
 #endif
 #define GUARD_BYTE 0x5A
 
-/* What each byte of the answer holds before a run. */
+/* What each byte of an answer, of a table to be read and of a text to be printed holds before the call. */
 #define FILL 0xA5
 
 /* What a word of a result holds before a call: every call writes all of them. */
@@ -43,7 +43,7 @@ static struct lent lend(const uint8_t *content, size_t len)
     return made;
 }
 
-/* An answer buffer, full of what it holds before a run. */
+/* A buffer to be written, full of what it holds before the call. */
 static struct lent lend_full(size_t len)
 {
     struct lent made;
@@ -132,19 +132,24 @@ static void print_bytes(const uint8_t *bytes, size_t len)
         printf("%02x", bytes[i]);
 }
 
-/* Prints the records that a run wrote, and whether all other bytes are as they were. */
-static void print_answer(struct lent answer, const struct words *result)
+/* Prints the bytes that a call wrote, and whether all other bytes are as they were. */
+static void print_written(struct lent buffer, size_t written)
+{
+    size_t i = written;
+    if (buffer.len < written)
+        fail("more is written than there is room for");
+    print_bytes(buffer.bytes, written);
+    while (i < buffer.len && buffer.bytes[i] == FILL)
+        i++;
+    printf(i == buffer.len ? " keeps" : " changed");
+}
+
+/* How many bytes of the answer a run wrote: the facts stored, if it is done. */
+static size_t answered(const struct words *result)
 {
     uint32_t number = result->row[NADHIRUKH_RESULT + NADHIRUKH_NUMBER];
     uint32_t stored = result->row[NADHIRUKH_RESULT + NADHIRUKH_STORED];
-    size_t written = number == NADHIRUKH_DONE ? (size_t)NADHIRUKH_STORED_FACT_LEN * stored : 0;
-    size_t i = written;
-    if (answer.len < written)
-        fail("more facts are stored than the answer has room for");
-    print_bytes(answer.bytes, written);
-    while (i < answer.len && answer.bytes[i] == FILL)
-        i++;
-    printf(i == answer.len ? " keeps" : " changed");
+    return number == NADHIRUKH_DONE ? (size_t)NADHIRUKH_STORED_FACT_LEN * stored : 0;
 }
 
 static void run(struct stored_case c)
@@ -158,7 +163,7 @@ static void run(struct stored_case c)
     number = nadhirukh_run(table.bytes, table.len, goal.bytes, goal.len, c.limit, answer.bytes, answer.len, result.row + NADHIRUKH_RESULT);
     printf("R");
     print_result(&result, number);
-    print_answer(answer, &result);
+    print_written(answer, answered(&result));
     take_back_kept(table, c.table);
     take_back_kept(goal, c.goal);
     take_back(answer);
@@ -214,6 +219,64 @@ static void find_weights(struct stored_case c)
     printf("\n");
 }
 
+/* Prints a result, a length, and the bytes written: the answer that a call which reads or prints a text gives. */
+static void print_text_answer(struct lent to, const struct words *result, const struct words *length, uint32_t number)
+{
+    uint32_t written = length->row[NADHIRUKH_RESULT];
+    print_result(result, number);
+    print_words(length, 1);
+    if (number != NADHIRUKH_DONE && written != 0)
+        fail("a refused call gives a length");
+    print_written(to, written);
+}
+
+static void read_text(struct stored_case c)
+{
+    struct lent text = lend(c.table, c.table_len);
+    struct lent table = lend_full(c.answer_len);
+    struct words result, length;
+    uint32_t number;
+    stale(&result);
+    stale(&length);
+    number = nadhirukh_read_text(text.bytes, text.len, table.bytes, table.len, result.row + NADHIRUKH_RESULT,
+                                 length.row + NADHIRUKH_RESULT);
+    printf("T");
+    print_text_answer(table, &result, &length, number);
+    take_back_kept(text, c.table);
+    take_back(table);
+    printf("\n");
+}
+
+/* What was printed of a table reads back to the same bytes. */
+static void read_back(struct lent text, size_t text_len, const uint8_t *table, size_t table_len)
+{
+    struct lent again = lend_full(table_len);
+    uint32_t result[NADHIRUKH_RESULT], length;
+    uint32_t number = nadhirukh_read_text(text.bytes, text_len, again.bytes, again.len, result, &length);
+    if (number != NADHIRUKH_DONE || length != table_len || memcmp(again.bytes, table, table_len) != 0)
+        fail("what is printed does not read back to the table");
+    take_back(again);
+}
+
+static void print_text(struct stored_case c)
+{
+    struct lent table = lend(c.table, c.table_len);
+    struct lent text = lend_full(c.answer_len);
+    struct words result, length;
+    uint32_t number;
+    stale(&result);
+    stale(&length);
+    number = nadhirukh_print_text(table.bytes, table.len, text.bytes, text.len, result.row + NADHIRUKH_RESULT,
+                                  length.row + NADHIRUKH_RESULT);
+    printf("P");
+    print_text_answer(text, &result, &length, number);
+    if (number == NADHIRUKH_DONE)
+        read_back(text, length.row[NADHIRUKH_RESULT], c.table, c.table_len);
+    take_back_kept(table, c.table);
+    take_back(text);
+    printf("\n");
+}
+
 static void run_case(struct stored_case c)
 {
     switch (c.kind) {
@@ -228,6 +291,12 @@ static void run_case(struct stored_case c)
         break;
     case 'F':
         find_weights(c);
+        break;
+    case 'T':
+        read_text(c);
+        break;
+    case 'P':
+        print_text(c);
         break;
     default:
         fail("no such kind");

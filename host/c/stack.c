@@ -21,7 +21,7 @@ static size_t most[256], cases[256];
 static void call(void)
 {
     static uint8_t answer[65536], weights[65536];
-    uint32_t result[NADHIRUKH_RESULT], bound[NADHIRUKH_BOUND];
+    uint32_t result[NADHIRUKH_RESULT], bound[NADHIRUKH_BOUND], length;
     if (now.answer_len > sizeof answer || now.weights_len > sizeof weights)
         fail("answer or weights too long");
     if (now.kind == 'C')
@@ -32,6 +32,10 @@ static void call(void)
         nadhirukh_weigh(now.table, now.table_len, now.weights, now.weights_len, now.goal, now.goal_len, result, bound);
     else if (now.kind == 'F')
         nadhirukh_find_weights(now.table, now.table_len, weights, now.weights_len, result);
+    else if (now.kind == 'T')
+        nadhirukh_read_text(now.table, now.table_len, answer, now.answer_len, result, &length);
+    else if (now.kind == 'P')
+        nadhirukh_print_text(now.table, now.table_len, answer, now.answer_len, result, &length);
     else
         fail("no such kind");
 }
@@ -66,5 +70,7 @@ int main(void)
     print("run", 'R');
     print("weigh", 'W');
     print("find", 'F');
+    print("read", 'T');
+    print("print", 'P');
     return 0;
 }

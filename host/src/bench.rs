@@ -5,4 +5,5 @@ pub mod libraries;
 pub mod loads;
 pub mod older;
 pub mod quotients;
+pub mod texts;
 pub mod timing;

@@ -15,6 +15,7 @@ pub mod readings;
 pub mod rooms;
 pub mod rules;
 pub mod tables;
+pub mod texts;
 
 use crate::build::{self, Rule};
 use crate::format::{ANSWER_LEN, MAX_LIMIT};
@@ -30,17 +31,21 @@ pub enum Call {
     Run,
     Weigh,
     FindWeights,
+    ReadText,
+    PrintText,
 }
 
 /// A call's input; what the call does not take is empty or 0.
 #[derive(Clone, Debug, PartialEq, Eq)]
 pub struct Case {
     pub call: Call,
+    /// The table, or the text to read.
     pub table: Vec<u8>,
     pub goal: Vec<u8>,
     /// The weights to weigh with, or what the buffer for those to be found holds before the call.
     pub weights: Vec<u8>,
     pub limit: u32,
+    /// The length of the buffer that the call writes to: an answer, a table or a text.
     pub answer_len: usize,
 }
 
@@ -253,6 +258,22 @@ impl Case {
             weights: Vec::new(),
             limit,
             answer_len,
+        }
+    }
+
+    /// A case that reads a text to a table of at most so many bytes.
+    pub fn read_text(text: Vec<u8>, room: usize) -> Case {
+        Case {
+            call: Call::ReadText,
+            ..Case::run(text, Vec::new(), 0, room)
+        }
+    }
+
+    /// A case that prints a table to a text of at most so many bytes.
+    pub fn print_text(table: Vec<u8>, room: usize) -> Case {
+        Case {
+            call: Call::PrintText,
+            ..Case::run(table, Vec::new(), 0, room)
         }
     }
 

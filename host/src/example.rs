@@ -114,6 +114,8 @@ impl Example {
 pub const ANY_ORDER: &str = "examples";
 /// The folder of those whose result does.
 pub const BY_ORDER: &str = "examples/order";
+/// The folder of those whose result depends on the order of the goal.
+pub const BY_GOAL: &str = "examples/goal_order";
 
 /// A goal's bytes.
 pub fn goal_bytes(goal: &[Fact]) -> Vec<u8> {
@@ -136,6 +138,13 @@ pub fn in_folder(folder: &str) -> io::Result<Vec<(String, Example)>> {
     }
     examples.sort_by(|a, b| a.0.cmp(&b.0));
     Ok(examples)
+}
+
+/// The examples of all folders by name.
+pub fn all() -> io::Result<Vec<(String, Example)>> {
+    let folders = [ANY_ORDER, BY_ORDER, BY_GOAL].map(in_folder);
+    let found: Vec<_> = folders.into_iter().collect::<io::Result<_>>()?;
+    Ok(found.into_iter().flatten().collect())
 }
 
 /// The example in a file; an error names the file.

@@ -45,6 +45,22 @@ extern "C" {
         weights_len: usize,
         result: *mut u32,
     ) -> u32;
+    fn nadhirukh_read_text(
+        text: *const u8,
+        text_len: usize,
+        table: *mut u8,
+        table_len: usize,
+        result: *mut u32,
+        length: *mut u32,
+    ) -> u32;
+    fn nadhirukh_print_text(
+        table: *const u8,
+        table_len: usize,
+        text: *mut u8,
+        text_len: usize,
+        result: *mut u32,
+        length: *mut u32,
+    ) -> u32;
 }
 
 /// Checks a table: the number returned, and the result.
@@ -113,6 +129,41 @@ pub fn find_weights(table: &[u8], weights: &mut [u8], result: &mut ResultWords) 
     }
 }
 
+/// Reads a text to a table: the number returned, the result, and how many bytes were written.
+pub fn read_text(text: &[u8], table: &mut [u8], result: &mut ResultWords, length: &mut u32) -> u32 {
+    // SAFETY: slices and arrays are valid for their lengths and do not overlap.
+    unsafe {
+        nadhirukh_read_text(
+            text.as_ptr(),
+            text.len(),
+            table.as_mut_ptr(),
+            table.len(),
+            result.as_mut_ptr(),
+            length,
+        )
+    }
+}
+
+/// Prints a table as text: the number returned, the result, and how many bytes were written.
+pub fn print_text(
+    table: &[u8],
+    text: &mut [u8],
+    result: &mut ResultWords,
+    length: &mut u32,
+) -> u32 {
+    // SAFETY: slices and arrays are valid for their lengths and do not overlap.
+    unsafe {
+        nadhirukh_print_text(
+            table.as_ptr(),
+            table.len(),
+            text.as_mut_ptr(),
+            text.len(),
+            result.as_mut_ptr(),
+            length,
+        )
+    }
+}
+
 /// A buffer between guard bytes.
 struct Guarded {
     bytes: Vec<u8>,
@@ -144,8 +195,8 @@ impl Guarded {
     }
 }
 
-/// What a case lends to a call: buffers between guard bytes. The words around the result and the
-/// bound are guards too.
+/// What a case lends to a call: buffers between guard bytes. The words around the result, the bound
+/// and the length are guards too.
 struct Lent {
     table: Guarded,
     goal: Guarded,
@@ -153,6 +204,7 @@ struct Lent {
     answer: Guarded,
     result: [ResultWords; 3],
     bound: [BoundWords; 3],
+    length: [u32; 3],
 }
 
 impl Lent {
@@ -164,6 +216,7 @@ impl Lent {
             answer: Guarded::new(&vec![FILL; case.answer_len]),
             result: [[STALE; RESULT_WORDS]; 3],
             bound: [[STALE; BOUND_WORDS]; 3],
+            length: [STALE; 3],
         }
     }
 
@@ -171,11 +224,14 @@ impl Lent {
     fn call(&mut self, call: Call, limit: u32) -> u32 {
         let (table, goal) = (self.table.lent(), self.goal.lent());
         let (result, bound) = (&mut self.result[1], &mut self.bound[1]);
+        let (answer, length) = (self.answer.lent_mut(), &mut self.length[1]);
         match call {
             Call::Check => check(table, result),
-            Call::Run => run(table, goal, limit, self.answer.lent_mut(), result),
+            Call::Run => run(table, goal, limit, answer, result),
             Call::Weigh => weigh(table, self.weights.lent(), goal, result, bound),
             Call::FindWeights => find_weights(table, self.weights.lent_mut(), result),
+            Call::ReadText => read_text(table, answer, result, length),
+            Call::PrintText => print_text(table, answer, result, length),
         }
     }
 
@@ -188,8 +244,16 @@ impl Lent {
         let around =
             self.answer.holds(self.answer.lent()) && self.weights.holds(self.weights.lent());
         require(around, "bytes around a buffer were changed")?;
-        let words = guards_kept(&self.result, &self.bound);
-        require(words, "words around a result were changed")
+        require(self.guards_kept(), "words around a result were changed")
+    }
+
+    /// Whether the words before and after result, bound and length are as they were.
+    fn guards_kept(&self) -> bool {
+        let stale = |words: &[u32]| words.iter().all(|word| *word == STALE);
+        let around = |at: usize| {
+            stale(&self.result[at]) && stale(&self.bound[at]) && stale(&[self.length[at]])
+        };
+        around(0) && around(2)
     }
 }
 
@@ -208,14 +272,12 @@ pub fn verdict(case: &Case) -> Result<Verdict, String> {
         Call::Run => verdict.answer = lent.answer.lent().to_vec(),
         Call::Weigh => verdict.bound = lent.bound[1],
         Call::FindWeights => verdict.weights = lent.weights.lent().to_vec(),
+        Call::ReadText | Call::PrintText => {
+            verdict.length = lent.length[1];
+            verdict.answer = lent.answer.lent().to_vec();
+        }
     }
     Ok(verdict)
-}
-
-/// Whether the words before and after result and bound are as they were.
-fn guards_kept(result: &[ResultWords; 3], bound: &[BoundWords; 3]) -> bool {
-    let stale = |words: &[u32]| words.iter().all(|word| *word == STALE);
-    stale(&result[0]) && stale(&result[2]) && stale(&bound[0]) && stale(&bound[2])
 }
 
 fn require(holds: bool, complaint: &str) -> Result<(), String> {

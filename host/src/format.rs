@@ -46,6 +46,10 @@ pub const MAX_GUARDS: usize = 4;
 pub const MAX_ITEMS: usize = 4;
 /// Bytes of the longest good table.
 pub const LONGEST_TABLE: usize = 23_681;
+/// Bytes of a text.
+pub const MAX_TEXT: usize = 65_536;
+/// Bytes of the longest text that is printed of a good table.
+pub const LONGEST_PRINTED: usize = 58_390;
 /// Facts of a goal.
 pub const MAX_GOAL: usize = 64;
 /// Facts in the store.

@@ -16,6 +16,7 @@
 //! - [`bench`]: what is measured, and how engines are timed against each other.
 //! - [`cases`]: random cases, good, damaged and near every limit.
 //! - [`divisions`]: the quotients and remainders that a run works out, and the edges they reach.
+//! - [`positions`]: the positions of the grammar of texts, and at which of them a text is refused.
 //! - [`verdict`]: everything that a call gives back for a case, and the reference's verdict.
 //! - [`stored`]: the form of stored cases, and the line that a program has to print for each.
 //! - `ffi`: the proved library through its C interface (feature `library`).
@@ -33,6 +34,7 @@ pub mod header;
 pub mod names;
 pub mod outcome;
 pub mod plain;
+pub mod positions;
 pub mod reference;
 pub mod stored;
 pub mod swi;

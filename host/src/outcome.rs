@@ -20,14 +20,26 @@ pub const TABLE_REFUSALS: [u32; 8] = [16, 17, 18, 19, 20, 21, 22, 23];
 pub const GOAL_REFUSALS: [u32; 5] = [32, 33, 34, 35, 36];
 /// The numbers that weights can be refused with.
 pub const WEIGHT_REFUSALS: [u32; 3] = [40, 41, 42];
-/// Of these, the numbers that a search for weights can give, which looks at no weight that it gets.
+/// The numbers that a text, or the room for it or for its table, can be refused with.
+pub const TEXT_REFUSALS: [u32; 4] = [48, 49, 50, 51];
+/// Of these, the number that printing can give, which gets no text.
+const PRINTING_REFUSALS: [u32; 1] = [51];
+/// Of the table's, the numbers that reading can give: the grammar keeps the others out.
+const READING_REFUSALS: [u32; 3] = [19, 20, 22];
+/// Of the weights', the numbers that a search for weights can give, which looks at no weight that
+/// it gets.
 const FINDING_REFUSALS: [u32; 2] = [40, 42];
 
 /// One more than the greatest number.
-pub const PAST_NUMBERS: usize = 1 + WEIGHT_REFUSALS[WEIGHT_REFUSALS.len() - 1] as usize;
+pub const PAST_NUMBERS: usize = 1 + TEXT_REFUSALS[TEXT_REFUSALS.len() - 1] as usize;
 
 /// Every number that a call can give, in rising order.
 pub fn numbers() -> Vec<u32> {
+    [&table_numbers()[..], &TEXT_REFUSALS].concat()
+}
+
+/// Every number that a call without a text can give.
+pub fn table_numbers() -> Vec<u32> {
     [
         &ENDINGS[..],
         &TABLE_REFUSALS,
@@ -40,6 +52,16 @@ pub fn numbers() -> Vec<u32> {
 /// Every number that a search for weights can give, found first.
 pub fn findings() -> Vec<u32> {
     [&[0][..], &TABLE_REFUSALS, &FINDING_REFUSALS].concat()
+}
+
+/// Every number that reading a text can give, read first.
+pub fn text_readings() -> Vec<u32> {
+    [&[0][..], &READING_REFUSALS, &TEXT_REFUSALS].concat()
+}
+
+/// Every number that printing a text can give, printed first.
+pub fn text_printings() -> Vec<u32> {
+    [&[0][..], &TABLE_REFUSALS, &PRINTING_REFUSALS].concat()
 }
 
 /// A result: number, place and the counts.
@@ -116,6 +138,34 @@ impl From<Refusal> for Outcome {
             number: refusal.number,
             place: refusal.place,
             ..Outcome::GOOD
+        }
+    }
+}
+
+/// What reading a text or printing one returns, beside the bytes.
+#[derive(Clone, Copy, Debug, Default, PartialEq, Eq)]
+pub struct Written {
+    pub outcome: Outcome,
+    /// How many bytes are written; 0 unless the number is 0.
+    pub length: u32,
+}
+
+impl Written {
+    /// Writes these bytes to the start of a room that is long enough.
+    pub fn to(room: &mut [u8], bytes: &[u8]) -> Written {
+        room[..bytes.len()].copy_from_slice(bytes);
+        Written {
+            outcome: Outcome::GOOD,
+            length: bytes.len() as u32,
+        }
+    }
+}
+
+impl From<Refusal> for Written {
+    fn from(refusal: Refusal) -> Written {
+        Written {
+            outcome: refusal.into(),
+            length: 0,
         }
     }
 }

@@ -10,6 +10,7 @@ mod occurrences;
 mod rules;
 mod search;
 mod store;
+pub mod text;
 
 use crate::format::{ANSWER_LEN, GOAL_FACT, GOAL_RECORD_LEN, MAX_GOAL, MAX_LIMIT};
 use crate::outcome::{Outcome, Refusal};

@@ -1,10 +1,12 @@
 //! The form in which cases are stored and given to a program that calls the proved library, and
 //! the line that the program has to print for each.
 //!
-//! A case is a kind byte (`C`, `R`, `W` or `F`), five little-endian words (lengths of table, goal
-//! and weights, step limit, length of the answer buffer), then table, goal and weights. Behind the
-//! last case stands one byte `.`. The answer buffer is full of 0xA5 before each run; where weights
-//! are looked for, those of the case are what the buffer holds before.
+//! A case is a kind byte (`C`, `R`, `W`, `F`, `T` or `P`), five little-endian words (lengths of
+//! table, goal and weights, step limit, length of the answer buffer), then table, goal and weights.
+//! Behind the last case stands one byte `.`. The answer buffer is full of 0xA5 before each run;
+//! where weights are looked for, those of the case are what the buffer holds before. Of `T` the text
+//! to read stands where the table does, and the answer buffer is the room for its table; of `P` it
+//! is the room for the text.
 
 use crate::cases::{Call, Case};
 use crate::format::STORED_RECORD_LEN;
@@ -77,11 +79,19 @@ pub fn line(case: &Case, verdict: &Verdict) -> String {
         Call::Run => words.extend(answer_words(verdict)),
         Call::Weigh => words.extend(verdict.bound.iter().map(u32::to_string)),
         Call::FindWeights => words.extend(bytes_word(&verdict.weights)),
+        Call::ReadText | Call::PrintText => words.extend(text_words(verdict)),
     }
     words.join(" ")
 }
 
-const CALLS: [Call; 4] = [Call::Check, Call::Run, Call::Weigh, Call::FindWeights];
+const CALLS: [Call; 6] = [
+    Call::Check,
+    Call::Run,
+    Call::Weigh,
+    Call::FindWeights,
+    Call::ReadText,
+    Call::PrintText,
+];
 
 /// The letter that a case and its line begin with.
 fn letter(call: Call) -> char {
@@ -90,19 +100,33 @@ fn letter(call: Call) -> char {
         Call::Run => 'R',
         Call::Weigh => 'W',
         Call::FindWeights => 'F',
+        Call::ReadText => 'T',
+        Call::PrintText => 'P',
     }
 }
 
-/// The records of a done run in hexadecimal, if there are any; then that all other bytes of the
-/// buffer keep what they held.
+/// The records of a done run in hexadecimal.
 fn answer_words(verdict: &Verdict) -> Vec<String> {
     let stored = match verdict.outcome.number {
         0 => verdict.outcome.stored as usize,
         _ => 0,
     };
-    let (records, behind) = verdict.answer.split_at(stored * STORED_RECORD_LEN);
+    written_words(verdict, stored * STORED_RECORD_LEN)
+}
+
+/// How many bytes were read or printed, and these in hexadecimal.
+fn text_words(verdict: &Verdict) -> Vec<String> {
+    let mut words = vec![verdict.length.to_string()];
+    words.extend(written_words(verdict, verdict.length as usize));
+    words
+}
+
+/// The bytes that a call wrote, if there are any; then that all other bytes of the buffer keep what
+/// they held.
+fn written_words(verdict: &Verdict, written: usize) -> Vec<String> {
+    let (written, behind) = verdict.answer.split_at(written);
     assert!(behind.iter().all(|byte| *byte == FILL));
-    let mut words = Vec::from_iter(bytes_word(records));
+    let mut words = Vec::from_iter(bytes_word(written));
     words.push("keeps".to_string());
     words
 }

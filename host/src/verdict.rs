@@ -1,7 +1,7 @@
 //! Everything that a call gives back for a case: numbers and every byte of the buffers it writes.
 
 use crate::cases::{Call, Case};
-use crate::outcome::{BoundWords, Outcome, Weighing, BOUND_WORDS};
+use crate::outcome::{BoundWords, Outcome, Weighing, Written, BOUND_WORDS};
 use crate::reference;
 
 /// What an answer buffer holds before a call.
@@ -13,7 +13,10 @@ pub struct Verdict {
     pub outcome: Outcome,
     /// W and the step bound; 0 for calls that do not weigh.
     pub bound: BoundWords,
-    /// The whole answer buffer after the call; empty for calls that do not run.
+    /// How many bytes of a table or a text were written; 0 for calls that write neither.
+    pub length: u32,
+    /// The whole buffer for an answer, a table or a text after the call; empty for calls that have
+    /// none.
     pub answer: Vec<u8>,
     /// The whole buffer of weights after a call that looks for them; empty for other calls.
     pub weights: Vec<u8>,
@@ -25,6 +28,7 @@ impl Verdict {
         Verdict {
             outcome,
             bound: [0; BOUND_WORDS],
+            length: 0,
             answer: Vec::new(),
             weights: Vec::new(),
         }
@@ -48,6 +52,17 @@ impl Verdict {
         }
     }
 
+    /// The verdict of reading or printing by some engine, to a buffer full of [`FILL`].
+    pub fn of_text(case: &Case, call: impl FnOnce(&[u8], &mut [u8]) -> Written) -> Verdict {
+        let mut answer = vec![FILL; case.answer_len];
+        let written = call(&case.table, &mut answer);
+        Verdict {
+            length: written.length,
+            answer,
+            ..Verdict::of_check(written.outcome)
+        }
+    }
+
     /// The verdict of a search for weights by some engine, in the buffer that the case lends.
     pub fn of_find(case: &Case, find: impl Fn(&[u8], &mut [u8]) -> Outcome) -> Verdict {
         let mut weights = case.weights.clone();
@@ -68,5 +83,7 @@ pub fn reference(case: &Case) -> Verdict {
             Verdict::of_weighing(reference::weigh(&case.table, &case.weights, &case.goal))
         }
         Call::FindWeights => Verdict::of_find(case, reference::find_weights),
+        Call::ReadText => Verdict::of_text(case, reference::read_text),
+        Call::PrintText => Verdict::of_text(case, reference::print_text),
     }
 }

@@ -5,7 +5,7 @@ cd "$(dirname "$0")/../.." || exit 2
 . scripts/testing.sh
 
 # The groups of cases that are stored.
-groups=(check goal run weigh find)
+groups=(check goal run weigh find read print)
 
 fresh=$(mktemp -d) || exit 2
 trap 'rm -rf "$fresh"' EXIT

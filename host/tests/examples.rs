@@ -3,13 +3,14 @@
 
 use nadhirukh_host::cases::random::Random;
 use nadhirukh_host::ending::Ending;
-use nadhirukh_host::example::{draw, goal_bytes, in_folder, Example, ANY_ORDER, BY_ORDER};
-use nadhirukh_host::format::ANSWER_LEN;
+use nadhirukh_host::example::{
+    self, draw, goal_bytes, in_folder, Example, ANY_ORDER, BY_GOAL, BY_ORDER,
+};
+use nadhirukh_host::format::{ANSWER_LEN, LONGEST_TABLE, MAX_TEXT};
+use nadhirukh_host::outcome::{Outcome, Written};
 use nadhirukh_host::reference::state::Fact;
 use nadhirukh_host::{plain, reference};
 
-/// The folder of the examples whose result depends on the order of the goal.
-const BY_GOAL: &str = "examples/goal_order";
 /// The step limit of the program *run*.
 const LIMIT: u32 = 1_000_000;
 /// How many random goals each example is run on.
@@ -113,4 +114,45 @@ fn random_goals_end_alike_in_every_order() {
             assert!([0, 1, 3, 4].contains(&found.number), "{}: {}", name, told);
         }
     });
+}
+
+/// The bytes that a call writes to a buffer of such a length.
+fn written(len: usize, call: impl FnOnce(&mut [u8]) -> Written) -> Vec<u8> {
+    let mut room = vec![0xA5; len];
+    let written = call(&mut room);
+    assert_eq!(written.outcome, Outcome::GOOD);
+    room.truncate(written.length as usize);
+    room
+}
+
+/// The text of a table, on which both engines agree to the byte.
+fn print(table: &[u8]) -> Vec<u8> {
+    let text = written(MAX_TEXT, |room| reference::print_text(table, room));
+    let work = &mut Vec::new();
+    let plain_text = written(MAX_TEXT, |room| plain::text::print_text(table, room, work));
+    assert_eq!(plain_text, text);
+    text
+}
+
+/// The table of a text, on which both engines agree to the byte.
+fn read(text: &[u8]) -> Vec<u8> {
+    let table = written(LONGEST_TABLE, |room| reference::read_text(text, room));
+    let work = &mut Vec::new();
+    let plain_table = written(LONGEST_TABLE, |room| {
+        plain::text::read_text(text, room, work)
+    });
+    assert_eq!(plain_table, table);
+    table
+}
+
+#[test]
+fn tables_printed_read_and_printed_again_are_the_same() {
+    let examples = example::all().expect("the examples can be read");
+    assert!(examples.len() >= 25, "{}", examples.len());
+    for (name, example) in examples {
+        let text = print(&example.table);
+        let table = read(&text);
+        assert_eq!(table, example.table, "{}", name);
+        assert_eq!(print(&table), text, "{}", name);
+    }
 }

@@ -53,7 +53,7 @@ fn words_of_a_result() -> Vec<(String, usize)> {
     .concat()
 }
 
-/// In document 01's order, which is that of the numbers. Which name belongs to which is said here alone:
+/// In the order of documents 01 and 02, which is that of the numbers. Which name belongs to which is said here alone:
 /// the second engine has numbers for its endings, and no names.
 fn numbers() -> Vec<(String, usize)> {
     let names = [
@@ -81,6 +81,10 @@ fn numbers() -> Vec<(String, usize)> {
         "WEIGHT_COUNT",
         "ZERO_WEIGHT",
         "NO_WEIGHT_LOST",
+        "TEXT_TOO_LONG",
+        "NO_TOKEN",
+        "NOT_IN_GRAMMAR",
+        "NO_ROOM",
     ];
     let numbers = outcome::numbers();
     assert_eq!(names.len(), numbers.len());
@@ -91,6 +95,7 @@ fn numbers() -> Vec<(String, usize)> {
 fn limits() -> Vec<(String, usize)> {
     let names = [
         ("MAX_TABLE", LONGEST_TABLE),
+        ("MAX_TEXT", MAX_TEXT),
         ("MAX_SYMBOLS", MAX_SYMBOLS),
         ("MAX_RULES", MAX_RULES),
         ("MAX_GOAL_FACTS", MAX_GOAL),
@@ -204,11 +209,11 @@ fn every_number_and_nothing_else_says_what_its_place_is() {
 }
 
 #[test]
-fn the_place_of_each_number_is_what_document_01_has_there() {
+fn the_place_of_each_number_is_what_the_documents_have_there() {
     for number in outcome::numbers() {
         let place = match number {
             3 | 4 | 6 | 7 | 42 => Some("rule"),
-            16..=23 => Some("byte"),
+            16..=23 | 49 | 50 => Some("byte"),
             33 => Some("goal fact"),
             41 => Some("symbol"),
             _ => None,

@@ -5,9 +5,10 @@ use std::collections::BTreeMap;
 use nadhirukh_host::bench::loads::{chain, cycles, Load, OldAnswer};
 use nadhirukh_host::bench::older::Standing;
 use nadhirukh_host::bench::quotients::quotients;
+use nadhirukh_host::bench::texts::{printings, readings, Reading};
 use nadhirukh_host::divisions::divides;
 use nadhirukh_host::ending::Ending;
-use nadhirukh_host::format::{ANSWER_LEN, MAX_LIMIT};
+use nadhirukh_host::format::{ANSWER_LEN, LONGEST_PRINTED, LONGEST_TABLE, MAX_LIMIT, MAX_TEXT};
 use nadhirukh_host::outcome::Outcome;
 use nadhirukh_host::reference::state::Fact;
 use nadhirukh_host::reference::table::Table;
@@ -151,4 +152,40 @@ fn an_older_library_is_timed_unless_it_did_other_work() {
     assert_eq!(same.to_string(), "the same");
     assert_eq!(other.to_string(), "other, as it may: the answers differ");
     assert_eq!(wrong.to_string(), "not comparable: the answers differ");
+}
+
+/// The number that each text is read with, by the reference and the plain reader alike, its length and
+/// the room for its table.
+fn read_numbers() -> Vec<(u32, usize, usize)> {
+    let read = |load: Reading| {
+        let (mut room, mut plain_room) = (vec![0; load.room], vec![0; load.room]);
+        let written = reference::read_text(&load.text, &mut room);
+        let plain = plain::text::read_text(&load.text, &mut plain_room, &mut Vec::new());
+        assert_eq!((plain, plain_room), (written, room), "{}", load.name);
+        (written.outcome.number, load.text.len(), load.room)
+    };
+    readings().into_iter().map(read).collect()
+}
+
+#[test]
+fn texts_are_read_to_their_end_and_both_readers_agree() {
+    let found = read_numbers();
+    // The longest texts have too many rules, or heads without a declaration: all of it is read, and
+    // the table is longer than any good one.
+    assert!(matches!(found[0], (19, MAX_TEXT, room) if room > 4 * LONGEST_TABLE));
+    assert!(matches!(found[1], (20, MAX_TEXT, room) if room > 20 * LONGEST_TABLE));
+    assert_eq!(found[2], (0, LONGEST_PRINTED, LONGEST_TABLE));
+    assert!(matches!(found[3], (0, 9_000.., LONGEST_TABLE)));
+    assert_eq!(found[4], (0, 51, 72));
+}
+
+#[test]
+fn tables_are_printed_to_their_end_and_both_printers_agree() {
+    for load in printings() {
+        let (mut room, mut plain_room) = (vec![0; load.room], vec![0; load.room]);
+        let written = reference::print_text(&load.table, &mut room);
+        let plain = plain::text::print_text(&load.table, &mut plain_room, &mut Vec::new());
+        assert_eq!((plain, plain_room), (written, room), "{}", load.name);
+        assert_eq!(written.length as usize, load.room, "{}", load.name);
+    }
 }

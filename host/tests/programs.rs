@@ -5,6 +5,7 @@ use std::path::{Path, PathBuf};
 use std::process::Command;
 
 use nadhirukh_host::build::{goal, table_a};
+use nadhirukh_host::outcome::{text_printings, text_readings};
 use nadhirukh_host::outcome::{ENDINGS, GOAL_REFUSALS, TABLE_REFUSALS, WEIGHT_REFUSALS};
 
 /// A folder of this test's own.
@@ -54,7 +55,7 @@ fn cases_in(bytes: &[u8]) -> usize {
 #[test]
 fn call_cases_hold_every_number_often_and_stay_short() {
     let (cases, lines) = call_cases("all", &[]);
-    assert!(cases.len() < 1_500_000, "{} bytes", cases.len());
+    assert!(cases.len() < 2_000_000, "{} bytes", cases.len());
     assert_eq!(cases_in(&cases), lines.lines().count());
     assert!(count(&lines, "C") >= 450);
     for number in TABLE_REFUSALS {
@@ -71,6 +72,12 @@ fn call_cases_hold_every_number_often_and_stay_short() {
     let weighings = [&[0][..], &GOAL_REFUSALS[..3], &WEIGHT_REFUSALS].concat();
     for number in weighings {
         assert!(count(&lines, &format!("W {}", number)) >= 25);
+    }
+    for number in text_readings().into_iter().filter(|number| *number != 48) {
+        assert!(count(&lines, &format!("T {}", number)) >= 50);
+    }
+    for number in text_printings() {
+        assert!(count(&lines, &format!("P {}", number)) >= 5);
     }
     let steps = |line: &str| line.split(' ').nth(3).map(|word| word.parse());
     let short = |line| matches!(steps(line), Some(Ok(0..=199_999_u32)));

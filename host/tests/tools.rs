@@ -212,7 +212,7 @@ fn a_program_says_in_one_line_how_it_is_started() {
         (EXAMPLE, "usage: example FILE [N]"),
         (CALL_CASES, "usage: call_cases FOLDER [GROUP...]"),
         (LINES, "usage: lines FOLDER"),
-        (COMPARE, "usage: compare FOLDER CASES SEED PROGRAM"),
+        (COMPARE, "usage: compare MIXTURE FOLDER CASES SEED PROGRAM"),
         (SWI, "usage: swi FOLDER RUN.."),
     ] {
         refuses(program, &[], 2, &[usage]);
@@ -224,7 +224,13 @@ fn a_program_says_in_one_line_how_it_is_started() {
     refuses(SHOW, &["file", "1", "2"], 2, &["usage: show"]);
     refuses(EXAMPLE, &["file", "one"], 2, &["usage: example", "'one'"]);
     refuses(CALL_CASES, &["folder", "all"], 2, &["check, goal, run"]);
-    refuses(COMPARE, &["folder", "9", "first", "cat"], 2, &["usage"]);
+    refuses(
+        COMPARE,
+        &["texts", "folder", "9", "first", "cat"],
+        2,
+        &["usage"],
+    );
+    refuses(COMPARE, &["folder", "9", "1", "cat"], 2, &["tables, texts"]);
 }
 
 #[test]
@@ -234,10 +240,15 @@ fn a_file_that_fails_is_named() {
         refuses(program, &[&missing], 1, &[&missing, "No such file"]);
     }
     let inside = path("missing/cases-").to_string_lossy().to_string();
-    refuses(COMPARE, &[&missing, "9", "1", "cat"], 1, &[&inside]);
+    refuses(
+        COMPARE,
+        &["tables", &missing, "9", "1", "cat"],
+        1,
+        &[&inside],
+    );
     let folder = env!("CARGO_TARGET_TMPDIR");
     let words = [missing.as_str(), "No such file"];
-    refuses(COMPARE, &[folder, "9", "1", &missing], 1, &words);
+    refuses(COMPARE, &["tables", folder, "9", "1", &missing], 1, &words);
     let full = file("full", b"no folder");
     for program in [LINES, CALL_CASES] {
         let ended = start(program, &[&full, "goal"]);

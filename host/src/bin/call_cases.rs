@@ -1,6 +1,7 @@
 //! `call_cases FOLDER [GROUP...]`: stored cases for a program that runs them against the proved
 //! library. It writes `stdin`, the cases, and `stdout`, the lines that the reference expects.
-//! Groups are `check`, `goal`, `run`, `weigh` and `find`; without a name all of them are written.
+//! Groups are `check`, `goal`, `run`, `weigh`, `find`, `read` and `print`; without a name all of them
+//! are written.
 //!
 //! [`stored`] says how they look.
 
@@ -9,19 +10,21 @@ use std::path::Path;
 use std::process::ExitCode;
 
 use nadhirukh_host::cases::random::Random;
-use nadhirukh_host::cases::{self, edges, finding, quotients, Case};
+use nadhirukh_host::cases::{self, edges, finding, quotients, texts, Case};
 use nadhirukh_host::tools::{self, Trouble};
 use nadhirukh_host::{divisions, stored, verdict};
 
 /// A group's name, and what gives its cases.
 type Group = (&'static str, fn() -> Vec<Case>);
 
-const GROUPS: [Group; 5] = [
+const GROUPS: [Group; 7] = [
     ("check", check_cases),
     ("goal", || pick(3, GOAL, cases::refused_run_case)),
     ("run", run_cases),
     ("weigh", || pick(5, WEIGH, cases::weigh_case)),
     ("find", find_cases),
+    ("read", read_cases),
+    ("print", print_cases),
 ];
 
 /// The seed of all groups; a group begins its own row of cases with it.
@@ -78,6 +81,34 @@ const FIND: Quota = &[
     (40, 25),
     (42, 50),
 ];
+
+// A text of more than 65,536 bytes, 48, has no room in the program of crates/call_cases.
+const READ: Quota = &[
+    (0, 60),
+    (19, 20),
+    (20, 25),
+    (22, 20),
+    (49, 40),
+    (50, 60),
+    (51, 25),
+];
+const PRINT: Quota = &[
+    (0, 50),
+    (16, 5),
+    (17, 5),
+    (18, 5),
+    (19, 5),
+    (20, 5),
+    (21, 5),
+    (22, 5),
+    (23, 5),
+    (51, 25),
+];
+
+/// The longest buffer that the program of crates/call_cases lends, and the longest text or table that
+/// is picked at random.
+const MOST_ROOM: usize = 4096;
+const MOST_BYTES: usize = 1000;
 
 fn main() -> ExitCode {
     tools::status("call_cases", write())
@@ -165,6 +196,31 @@ fn find_cases() -> Vec<Case> {
     let mut found = finding::longest_searches();
     found.extend(pick(6, FIND, finding::case));
     found
+}
+
+/// Texts at every edge, then random ones.
+fn read_cases() -> Vec<Case> {
+    let mut found = texts::edges::read_cases();
+    found.extend(pick(8, READ, |random| short(random, texts::read_case)));
+    found
+}
+
+/// Tables at every edge that can be printed, some that cannot, and random ones.
+fn print_cases() -> Vec<Case> {
+    let mut found = texts::edges::print_cases();
+    found.extend(texts::edges::bad_print_cases().into_iter().step_by(6));
+    found.extend(pick(9, PRINT, |random| short(random, texts::print_case)));
+    found
+}
+
+/// The next case of a generator that is not too long.
+fn short(random: &mut Random, generate: fn(&mut Random) -> Case) -> Case {
+    loop {
+        let case = generate(random);
+        if case.table.len() <= MOST_BYTES && case.answer_len <= MOST_ROOM {
+            return case;
+        }
+    }
 }
 
 /// What the case of a number in a row is made from.

@@ -12,6 +12,7 @@
 //! - [`run`](mod@run): steps up to an ending (0 to 7, 35, 36) and the answer.
 //! - [`weigh`](mod@weigh): weighing (40, 41, 42).
 //! - [`find`]: looking for weights (40, 42).
+//! - [`text`]: tables read from text and printed as text, document 02's No. 2 (48 to 51).
 
 pub mod check;
 pub mod fields;
@@ -24,9 +25,11 @@ pub mod run;
 pub mod state;
 pub mod step;
 pub mod table;
+pub mod text;
 pub mod weigh;
 
 pub use check::check;
 pub use find::find_weights;
 pub use run::run;
+pub use text::{print_text, read_text};
 pub use weigh::weigh;

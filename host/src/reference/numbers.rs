@@ -25,6 +25,17 @@ impl Operation {
         }
     }
 
+    /// The operation's byte.
+    pub fn byte(self) -> u8 {
+        match self {
+            Operation::Sum => 1,
+            Operation::Difference => 2,
+            Operation::Product => 3,
+            Operation::Quotient => 4,
+            Operation::Remainder => 5,
+        }
+    }
+
     /// The exact value, or nothing if it is undefined: out of range, or the divisor is 0.
     pub fn apply(self, a: i32, b: i32) -> Option<i32> {
         let (a, b) = (i64::from(a), i64::from(b));
@@ -72,6 +83,18 @@ impl Comparator {
             4 => Some(Comparator::Greater),
             5 => Some(Comparator::AtLeast),
             _ => None,
+        }
+    }
+
+    /// The comparator's byte.
+    pub fn byte(self) -> u8 {
+        match self {
+            Comparator::Equal => 0,
+            Comparator::Unequal => 1,
+            Comparator::Less => 2,
+            Comparator::AtMost => 3,
+            Comparator::Greater => 4,
+            Comparator::AtLeast => 5,
         }
     }
 

@@ -2,7 +2,10 @@
 //! turns. Prints, for each load, what the run came to, microseconds a call of both, and the
 //! library's share of the plain engine's time: the median and the middle half of the rounds. With
 //! an older library (feature `old_library`) the same of that one, behind the rest of the line, and
-//! whether it gives the same.
+//! whether it gives the same. Of texts that are read and printed it prints the bytes of text and the
+//! megabytes a second too, and leaves an older library out.
+
+mod texts;
 
 use nadhirukh_host::bench::libraries::{Lent, Library, NEW, OLD};
 use nadhirukh_host::bench::loads::{chain, cycles, Load, OldAnswer};
@@ -37,6 +40,7 @@ fn main() {
             run(&chain(heads, stored));
         }
     }
+    texts::measure_all();
 }
 
 fn heading(what: &str) {
