@@ -1,8 +1,9 @@
 // Stored cases, run: each case of the standard input is one call, and its result is printed on a line of its own.
 // The second engine (host/) writes the cases, and the lines expected of them.
 //
-// A case is its kind (`C` check, `R` run, `W` weigh, `F` find weights), five words of 32 bits (the lengths of table, goal and weights, the step limit,
-// the length of the answer buffer), then table, goal and weights. A single byte ends the cases.
+// A case is its kind (`C` check, `R` run, `W` weigh, `F` find weights, `T` read text, `P` print text), five words of 32 bits (the lengths of table, goal and
+// weights, the step limit, the length of the answer buffer), then table, goal and weights. A text stands where a table does, and the buffer that is written
+// is the answer buffer. A single byte ends the cases.
 ghost use mathlib.Core.Path.{_≡_};
 ghost use Prim.Native.Nat.{_≤_};
 ghost use lib.ListN.{length};
@@ -13,6 +14,8 @@ use printing::put;
 use printing::put_hex;
 use printing::put_next;
 use printing::put_result;
+use text_printer::Printing;
+use text_reader::TextRead;
 
 // More cases than there are: a loop needs a number that falls, since nothing says that an input ends.
 const MOST_CASES: u32 = 1000000;
@@ -145,6 +148,51 @@ fn find_case(table: &[u8], held: &[u8]) {
     find_in(table, held, &mut buffer[0..n]);
 }
 
+// How many bytes a call on texts has written, and the bytes.
+fn put_written(r: CallResult, length: u32, buffer: &[u8]) {
+    put_result(r);
+    put_next(length);
+    put_answer(buffer, length as usize);
+}
+
+// A text is read into as many bytes as its case says.
+fn read_within(text: &[u8], buffer: &mut [u8], room: usize) -> TextRead
+    requires { ⌜ room ≤ length (now buffer) ⌝ }
+{
+    text_reader::read_text(text, &mut buffer[0..room])
+}
+
+fn read_case(h: Header, text: &[u8]) {
+    let mut buffer = fresh_buffer();
+    let room = h.room as usize;
+    if 4096 < room {
+        put(b"table buffer too long\n");
+        return;
+    }
+    let read = read_within(text, &mut buffer, room);
+    put(b"T ");
+    put_written(read.result, read.length, &buffer);
+}
+
+// A table is printed into as many bytes as its case says.
+fn print_within(table: &[u8], buffer: &mut [u8], room: usize) -> Printing
+    requires { ⌜ room ≤ length (now buffer) ⌝ }
+{
+    text_printer::print_text(table, &mut buffer[0..room])
+}
+
+fn print_case(h: Header, table: &[u8]) {
+    let mut buffer = fresh_buffer();
+    let room = h.room as usize;
+    if 4096 < room {
+        put(b"text buffer too long\n");
+        return;
+    }
+    let printed = print_within(table, &mut buffer, room);
+    put(b"P ");
+    put_written(printed.result, printed.length, &buffer);
+}
+
 // The call that the kind names.
 fn call(h: Header, table: &[u8], goal: &[u8], weights: &[u8]) {
     let kind = h.kind;
@@ -153,6 +201,8 @@ fn call(h: Header, table: &[u8], goal: &[u8], weights: &[u8]) {
         b'R' => run_case(h, table, goal),
         b'W' => weigh_case(table, weights, goal),
         b'F' => find_case(table, weights),
+        b'T' => read_case(h, table),
+        b'P' => print_case(h, table),
         _ => put(b"no such kind\n"),
     }
 }
