@@ -12,9 +12,9 @@
  * calls may be made from several threads at once, each with its own buffers to write; they may read the same table, as long as nobody
  * writes it meanwhile.
  *
- * Stack. Over the stored cases of this project a run took at most 18,528 bytes of machine stack on x86-64, and every other call much
- * less (docs/MEASUREMENTS.md). This is measured, not proved: allow 26,624 for a run, and 6,656 for any other call.
- * TO BE MEASURED: nadhirukh_read_text and nadhirukh_print_text take at most so many bytes of machine stack.
+ * Stack. Over the stored cases of this project a run took at most 18,528 bytes of machine stack on x86-64, reading a text 25,816, of which
+ * 23,727 are room for the table that is checked before it is written, printing a table 2,856, and every other call no more than 3,096
+ * (docs/MEASUREMENTS.md). This is measured, not proved: allow 26,624 for a run, 32,768 for reading a text, and 6,656 for any other call.
  *
  * Linking. The archive is for x86-64, by the System V calling convention. Of the C library it needs `memcpy` and `memset` alone, so it
  * links without one where the program has these two. It has no data of its own.
@@ -181,7 +181,7 @@ uint32_t nadhirukh_find_weights(const uint8_t *table, size_t table_len, uint8_t 
                                 uint32_t result[NADHIRUKH_RESULT]);
 
 /*
- * Reads a text of declarations and rules, of which docs/GUIDE.md has the grammar, to a table. Where the number is 0, the table is good,
+ * Reads a text of declarations and rules, of which docs/TEXT.md has the grammar, to a table. Where the number is 0, the table is good,
  * *length is its number of bytes, and these are the first bytes of `table`; the bytes behind them keep what they held. Otherwise *length
  * is 0, and all bytes of `table` keep what they held. *length is written on every return.
  *

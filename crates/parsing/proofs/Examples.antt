@@ -50,6 +50,6 @@ pub texts :
     -- no token: anywhere in the text, also behind the first wrong one
     × (read "s0 ==> ==> #" ≡ strange 11)
     × (read "s32 ==> true." ≡ strange 0)
-unfolding read bytesOf lessOne isBlank isDigit isWordByte run digits valueFrom value negative indexOf begins indexed constantOf keyword word negated signs signOf
-    tokenAt lexedBy lexedFrom lexed by along edgesOf step forward whole ended wrongFrom goOn parsedFrom parsed
+unfolding read bytesOf lessOne isBlank isDigit isWordByte run digits valueFrom value negative indexOf begins indexed constantOf keyword word negated
+    signs signOf tokenAt lexedBy lexedFrom lexed by along edgesOf step forward whole ended wrongFrom goOn parsedFrom parsed
 texts = (refl, refl, refl, refl, refl, refl, refl, refl, refl, refl, refl, refl, refl, refl)

@@ -110,7 +110,8 @@ module _ {a : List ℕ} {n : ℕ} {s : List ℕ} (room : length a ≡ 23727) whe
     gives-bad h = record {
       gives = λ text t long held.
           let q = k ∙ room-check held long room l in
-          rw (le-ltb (length s) (length t) (omega arith), ne-eqb (checkOf t .number) 0 (λ (z : checkOf t .number ≡ 0). h (ap (λ (x : CallResult). x .number) q ∙ z)))
+          let bad : checkOf t .number ≡ 0 → ⊥ = λ z. h (ap (λ (x : CallResult). x .number) q ∙ z) in
+          rw (le-ltb (length s) (length t) (omega arith), ne-eqb (checkOf t .number) 0 bad)
           (record { result = q; length = refl; bytes = refl });
     }
 

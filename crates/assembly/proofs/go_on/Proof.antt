@@ -22,13 +22,21 @@ go-on-spec =
     (λ c. search needs)
     (λ c κs. search needs)
     (λ c. search needs)
-    (λ c κs. (omega (arith, c .before .before .before .before .before .pre .near), named-near (c .before .before .phase2 .given .1) (c .before .before .before .before .before .pre .group)))
+    (λ c κs. (
+      omega (arith, c .before .before .before .before .before .pre .near),
+      named-near (c .before .before .phase2 .given .1)
+          (c .before .before .before .before .before .pre .group),
+    ))
     (λ c. search needs)
     (λ c κs. search needs)
     (λ c. search needs)
     (λ c κs. search needs)
     (λ c. search needs)
-    (λ c κs. (omega (arith, c .before .before .before .before .before .pre .near), done-near (c .before .before .phase5 .given .1) (c .before .before .before .before .before .pre .group)))
+    (λ c κs. (
+      omega (arith, c .before .before .before .before .before .pre .near),
+      done-near (c .before .before .phase5 .given .1)
+          (c .before .before .before .before .before .pre .group),
+    ))
     (λ c. search needs)
     (λ c κs. search needs)
     (λ c. search needs)

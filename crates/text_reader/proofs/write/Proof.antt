@@ -10,4 +10,6 @@ write-spec =
     (tie.spec
     (λ c κs. search needs)
     (λ c. search needs)
-    (λ c. whole-copied (c .before .before .before .before .before .before .args .assembled .now) (c .before .before .before .before .before .before .args .table .now) (c .before .before .copy .ensures .1)))
+    (λ c.
+    whole-copied (c .before .before .before .before .before .before .args .assembled .now)
+    (c .before .before .before .before .before .before .args .table .now) (c .before .before .copy .ensures .1)))

@@ -19,6 +19,9 @@ item-spec =
     (λ c. search needs)
     (λ c κs. search needs)
     (λ c. search needs)
-    (λ c. goes-no-symbol _ _ _ (c .before .before .before .before .before .before .before .if1 .left) (goes-mark failWord _ _ _ (c .before .before .before .before .before .if2 .taken) (c .here2 .ensures) (one-laid _ _ _ (c .before .before .before .put .ensures))))
+    (λ c.
+    goes-no-symbol _ _ _ (c .before .before .before .before .before .before .before .if1 .left)
+    (goes-mark failWord _ _ _ (c .before .before .before .before .before .if2 .taken) (c .here2 .ensures)
+    (one-laid _ _ _ (c .before .before .before .put .ensures))))
     (λ c κs. search needs)
     (λ c. goes-no-symbol _ _ _ (c .before .before .before .if1 .left) (goes-off failWord _ _ _ (c .before .if2 .left) (goes-stuck (c .stuck .ensures)))))

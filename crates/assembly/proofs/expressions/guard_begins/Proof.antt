@@ -16,6 +16,9 @@ guard-begins-spec =
     (λ c κs. search needs)
     (λ c κs. search needs)
     (λ c. search needs)
-    (λ c. goes-guard _ _ _ _ (c .before .before .before .before .before .before .before .before .before .before .is-slot .ensures) (c .before .before .before .before .before .before .before .before .before .if1 .taken) (c .here .ensures) (c .before .before .before .before .before .before .before .put .ensures) (c .before .before .before .put-slot .ensures))
+    (λ c.
+    goes-guard _ _ _ _ (c .before .before .before .before .before .before .before .before .before .before .is-slot .ensures)
+    (c .before .before .before .before .before .before .before .before .before .if1 .taken) (c .here .ensures)
+    (c .before .before .before .before .before .before .before .put .ensures) (c .before .before .before .put-slot .ensures))
     (λ c κs. search needs)
     (λ c. goes-no-slot _ _ _ (c .before .before .is-slot .ensures) (c .before .if1 .left) (goes-stuck (c .stuck .ensures))))

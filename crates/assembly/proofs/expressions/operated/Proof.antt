@@ -17,6 +17,9 @@ operated-spec =
     (λ c κs. omega (arith, c .before .place-of .ensures .near))
     (λ c κs. search needs)
     (λ c. search needs)
-    (λ c. goes-slot _ _ _ (c .before .before .before .before .before .before .before .is-slot .ensures) (c .before .before .before .before .before .before .if1 .taken) (c .here .ensures) (laid-there _ _ _ _ (c .before .before .before .before .before .place-of .ensures .same) (c .before .before .before .put-slot .ensures)))
+    (λ c.
+    goes-slot _ _ _ (c .before .before .before .before .before .before .before .is-slot .ensures)
+    (c .before .before .before .before .before .before .if1 .taken) (c .here .ensures)
+    (laid-there _ _ _ _ (c .before .before .before .before .before .place-of .ensures .same) (c .before .before .before .put-slot .ensures)))
     (λ c κs. search needs)
     (λ c. goes-no-slot _ _ _ (c .before .before .is-slot .ensures) (c .before .if1 .left) (goes-stuck (c .stuck .ensures))))

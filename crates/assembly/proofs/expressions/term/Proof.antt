@@ -14,7 +14,9 @@ term-spec =
     (λ c κs. search needs)
     (λ c κs. search needs)
     (λ c. search needs)
-    (λ c. goes-operation _ _ _ (c .before .before .before .before .before .before .if1 .taken) (c .here .ensures) (c .before .before .before .before .before .place-of .ensures .same) (c .before .before .before .put .ensures))
+    (λ c.
+    goes-operation _ _ _ (c .before .before .before .before .before .before .if1 .taken) (c .here .ensures)
+    (c .before .before .before .before .before .place-of .ensures .same) (c .before .before .before .put .ensures))
     (λ c κs. search needs)
     (λ c. search needs)
     (λ c. goes-no-operation _ _ _ (c .before .before .before .before .if1 .left) (c .before .before .behind-formula .ensures)))

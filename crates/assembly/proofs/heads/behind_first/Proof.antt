@@ -16,8 +16,17 @@ behind-first-spec =
     (λ c κs. search needs)
     (λ c κs. search needs)
     (λ c. search needs)
-    (λ c. goes-off backslash _ _ _ (c .before .before .before .before .before .before .before .if1 .left) (goes-mark simplifies _ _ _ (c .before .before .before .before .before .if2 .taken) (c .here2 .ensures) (c .before .before .before .put-removed .ensures)))
+    (λ c.
+    goes-off backslash _ _ _ (c .before .before .before .before .before .before .before .if1 .left)
+    (goes-mark simplifies _ _ _ (c .before .before .before .before .before .if2 .taken) (c .here2 .ensures)
+    (c .before .before .before .put-removed .ensures)))
     (λ c κs. search needs)
-    (λ c. goes-off backslash _ _ _ (c .before .before .before .before .before .if1 .left) (goes-off simplifies _ _ _ (c .before .before .before .if2 .left) (goes-mark propagates _ _ _ (c .before .if3 .taken) (c .here3 .ensures) (none-laid _))))
+    (λ c.
+    goes-off backslash _ _ _ (c .before .before .before .before .before .if1 .left)
+    (goes-off simplifies _ _ _ (c .before .before .before .if2 .left)
+    (goes-mark propagates _ _ _ (c .before .if3 .taken) (c .here3 .ensures) (none-laid _))))
     (λ c κs. search needs)
-    (λ c. goes-off backslash _ _ _ (c .before .before .before .before .before .if1 .left) (goes-off simplifies _ _ _ (c .before .before .before .if2 .left) (goes-off propagates _ _ _ (c .before .if3 .left) (goes-stuck (c .stuck .ensures))))))
+    (λ c.
+    goes-off backslash _ _ _ (c .before .before .before .before .before .if1 .left)
+    (goes-off simplifies _ _ _ (c .before .before .before .if2 .left)
+    (goes-off propagates _ _ _ (c .before .if3 .left) (goes-stuck (c .stuck .ensures))))))

@@ -11,7 +11,10 @@ behind-group-spec =
     tie.close
     (tie.spec
     (λ c. search needs)
-    (λ c κs. (first-near (c .before .before .g .given .1) (c .before .before .before .before .before .pre .1), c .before .before .before .before .before .pre .0))
+    (λ c κs. (
+      first-near (c .before .before .g .given .1) (c .before .before .before .before .before .pre .1),
+      c .before .before .before .before .before .pre .0,
+    ))
     (λ c. search needs)
     (λ c κs. search needs)
     (λ c. search needs)

@@ -14,6 +14,8 @@ head-next-spec =
     (λ c κs. search needs)
     (λ c κs. search needs)
     (λ c. search needs)
-    (λ c. goes-symbol _ _ _ (c .before .before .before .before .before .before .if1 .taken) (c .here .ensures) (paired _ _ _ _ (c .before .before .before .before .kind-of .ensures) (c .before .before .before .put-pair .ensures)))
+    (λ c.
+    goes-symbol _ _ _ (c .before .before .before .before .before .before .if1 .taken) (c .here .ensures)
+    (paired _ _ _ _ (c .before .before .before .before .kind-of .ensures) (c .before .before .before .put-pair .ensures)))
     (λ c κs. search needs)
     (λ c. goes-no-symbol _ _ _ (c .before .if1 .left) (goes-stuck (c .stuck .ensures))))

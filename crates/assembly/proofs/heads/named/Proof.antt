@@ -19,4 +19,6 @@ named-spec =
     (λ c. named-slash (c .before .before .before .if1 .left) (c .before .before .is-slash .ensures) (c .before .if2 .taken) (c .here .ensures))
     (λ c κs. search needs)
     (λ c. search needs)
-    (λ c. named-no-slash (c .before .before .before .before .before .before .if1 .left) (c .before .before .before .before .before .is-slash .ensures) (c .before .before .before .before .if2 .left) (c .before .before .beginning2 .ensures)))
+    (λ c.
+    named-no-slash (c .before .before .before .before .before .before .if1 .left) (c .before .before .before .before .before .is-slash .ensures)
+    (c .before .before .before .before .if2 .left) (c .before .before .beginning2 .ensures)))

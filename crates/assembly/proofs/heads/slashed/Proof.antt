@@ -20,4 +20,6 @@ slashed-spec =
     (λ c. search needs)
     (λ c κs. search needs)
     (λ c. search needs)
-    (λ c. goes-arity _ _ _ (c .before .before .before .before .before .before .before .before .if1 .left) (c .before .before .before .before .before .before .if2 .left) (c .here .ensures) (c .before .before .before .put-pair .ensures)))
+    (λ c.
+    goes-arity _ _ _ (c .before .before .before .before .before .before .before .before .if1 .left)
+    (c .before .before .before .before .before .before .if2 .left) (c .here .ensures) (c .before .before .before .put-pair .ensures)))

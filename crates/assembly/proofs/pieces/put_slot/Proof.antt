@@ -25,4 +25,9 @@ put-slot-spec =
     (λ c. search needs)
     (λ c κs. search needs)
     (λ c. search needs)
-    (λ c. five-laid _ _ _ _ (c .before .before .before .before .before .before .before .before .before .before .before .before .before .before .before .before .before .before .put .ensures) (c .before .before .before .before .before .before .before .before .before .before .before .before .before .before .put2 .ensures) (c .before .before .before .before .before .before .before .before .before .before .put3 .ensures) (c .before .before .before .before .before .before .put4 .ensures) (c .before .before .put5 .ensures)))
+    (λ c.
+    let fourth = c .before .before .before .before .before .before in
+    let third = fourth .before .before .before .before in
+    let second = third .before .before .before .before in
+    let first = second .before .before .before .before in
+    five-laid _ _ _ _ (first .put .ensures) (second .put2 .ensures) (third .put3 .ensures) (fourth .put4 .ensures) (c .before .before .put5 .ensures)))

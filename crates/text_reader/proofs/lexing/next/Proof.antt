@@ -13,7 +13,16 @@ next-spec =
     (λ c. next-end (c .before .behind-blanks .ensures) (c .if1 .taken))
     (λ c κs. search needs)
     (λ c. search needs)
-    (λ c. omega (arith, token-within (c .before .before .before .before .before .behind-blanks .ensures) (c .before .before .before .token-at .ensures) (c .before .t .given .1)))
+    (λ c.
+    omega (
+      arith,
+      token-within (c .before .before .before .before .before .behind-blanks .ensures) (c .before .before .before .token-at .ensures)
+          (c .before .t .given .1),
+    ))
     (λ c. search needs)
-    (λ c. next-token (c .before .before .before .before .before .behind-blanks .ensures) (c .before .before .before .token-at .ensures) (c .before .before .before .before .if1 .left) (c .before .t .given .1))
-    (λ c. next-strange (c .before .before .before .before .behind-blanks .ensures) (c .before .before .token-at .ensures) (c .before .before .before .if1 .left) (c .enum-told .given .1)))
+    (λ c.
+    next-token (c .before .before .before .before .before .behind-blanks .ensures) (c .before .before .before .token-at .ensures)
+    (c .before .before .before .before .if1 .left) (c .before .t .given .1))
+    (λ c.
+    next-strange (c .before .before .before .before .behind-blanks .ensures) (c .before .before .token-at .ensures)
+    (c .before .before .before .if1 .left) (c .enum-told .given .1)))

@@ -13,4 +13,6 @@ finish-spec =
     (λ c κs. search needs)
     (λ c. search needs)
     (λ c. search needs)
-    (λ c. finish-there (c .before .before .before .before .before .may-end .ensures) (c .before .before .before .before .if1 .left) (c .before .before .put-end .ensures)))
+    (λ c.
+    finish-there (c .before .before .before .before .before .may-end .ensures) (c .before .before .before .before .if1 .left)
+    (c .before .before .put-end .ensures)))

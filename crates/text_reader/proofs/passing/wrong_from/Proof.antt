@@ -29,5 +29,14 @@ wrong-from-spec =
     (λ c. left-strange (c .before .before .before .before .loop .inv) (c .before .before .before .next .ensures) (c .before .q .given .1))
     (λ c. search needs)
     (λ c κs. search needs)
-    (λ c. omega (arith, left-on (c .before .before .before .before .before .loop .inv) (c .before .before .before .before .next .ensures) (c .before .before .t .given .1), left-more (c .before .before .before .before .before .loop .inv) (c .before .before .before .before .next .ensures) (c .before .before .t .given .1) (c .is-slot .ensures) .within))
-    (λ c. left-more (c .before .before .before .before .before .loop .inv) (c .before .before .before .before .next .ensures) (c .before .before .t .given .1) (c .is-slot .ensures)))
+    (λ c.
+    omega (
+      arith,
+      left-on (c .before .before .before .before .before .loop .inv) (c .before .before .before .before .next .ensures)
+          (c .before .before .t .given .1),
+      left-more (c .before .before .before .before .before .loop .inv)
+          (c .before .before .before .before .next .ensures) (c .before .before .t .given .1) (c .is-slot .ensures) .within,
+    ))
+    (λ c.
+    left-more (c .before .before .before .before .before .loop .inv) (c .before .before .before .before .next .ensures)
+    (c .before .before .t .given .1) (c .is-slot .ensures)))
