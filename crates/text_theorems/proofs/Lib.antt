@@ -3,3 +3,5 @@ pub mod Cases
 pub mod Accepted
 pub mod Refused
 pub mod Calls
+pub mod Printing
+pub mod Back

@@ -1,0 +1,37 @@
+-- Printing and reading: a good table's text reads back to the same bytes, and an accepted text and the text printed of its table stand for one table.
+use Prim.Native.Nat.{ℕ, _≤_}
+use native.Mathlib.Omega.{arith}
+use mathlib.Core.Path.{_≡_, refl, sym, ap, _∙_, subst}
+use mathlib.Core.List.{List, _++_}
+use lib.ListN.{length, drop}
+use Rattle.model.specs.declared.Verdict.the-variants.{Good}
+use Rattle.model.specs.Results.{refusal}
+use Rattle.model.specs.Reading.{readOf}
+use Rattle.model.proofs.Ranges.{AreBytes}
+use Rattle.grammar.specs.Tree.{TableTree}
+use Rattle.grammar.specs.Encode.{encode}
+use Rattle.grammar.specs.Layout.{treeOf}
+use Rattle.grammar.specs.WellFormed.{WellFormed}
+use Rattle.grammar.proofs.Grammar.{good-encodes}
+use Rattle.grammar.proofs.Encoded.{tree-back}
+use Rattle.text.specs.Printed.{printed}
+use Rattle.text_reader.specs.ReadText.{ReadCall, readTextOf}
+use Rattle.text_theorems.proofs.Accepted.{TextOf, Accepted, accepted-gives, formed-accepted}
+use Rattle.text_theorems.proofs.Printing.{printed-text}
+
+-- what reading gives where it writes the table t: t at the buffer's front, its length, six zeros; the bytes behind it stay
+abbrev pub gives : List ℕ → List ℕ → ReadCall
+gives t buffer = record { result = refusal 0 0; length = length t; table = t ++ drop (length t) buffer }
+
+-- A well-formed tree, printed, is read back to its table.
+pub tree-reads-back : (w : TableTree) → WellFormed w → length (printed w) ≤ 65536 → (buffer : List ℕ) → length (encode w) ≤ length buffer
+    → readTextOf (printed w) buffer ≡ gives (encode w) buffer
+tree-reads-back w f h buffer r = accepted-gives (printed w) buffer w (formed-accepted (printed w) buffer w (printed-text w f h) f r)
+
+-- A good table, printed, is read back to the same bytes, with six zeros, wherever there is room for it.
+pub printed-reads-back : (t : List ℕ) → AreBytes t → readOf t .verdict ≡ Good → length (printed (treeOf t)) ≤ 65536 → (buffer : List ℕ)
+    → length t ≤ length buffer → readTextOf (printed (treeOf t)) buffer ≡ gives t buffer
+printed-reads-back t u e h buffer r =
+    let g = good-encodes t u e in
+    subst (λ (b : List ℕ). readTextOf (printed (treeOf t)) buffer ≡ gives b buffer) (g .bytes)
+    (tree-reads-back (treeOf t) (g .formed) h buffer (rw (g .bytes) r))
