@@ -14,9 +14,11 @@ use Rattle.grammar.specs.Layout.{treeOf}
 use Rattle.grammar.specs.WellFormed.{WellFormed}
 use Rattle.grammar.proofs.Grammar.{good-encodes}
 use Rattle.grammar.proofs.Encoded.{tree-back}
+use Rattle.table_front.proofs.Front.{check-good}
 use Rattle.text.specs.Printed.{printed}
 use Rattle.text_reader.specs.ReadText.{ReadCall, readTextOf}
 use Rattle.text_theorems.proofs.Accepted.{TextOf, Accepted, accepted-gives, formed-accepted}
+use Rattle.text_theorems.proofs.Ranged.{text-bytes}
 use Rattle.text_theorems.proofs.Printing.{printed-text}
 
 -- what reading gives where it writes the table t: t at the buffer's front, its length, six zeros; the bytes behind it stay
@@ -35,3 +37,10 @@ printed-reads-back t u e h buffer r =
     let g = good-encodes t u e in
     subst (λ (b : List ℕ). readTextOf (printed (treeOf t)) buffer ≡ gives b buffer) (g .bytes)
     (tree-reads-back (treeOf t) (g .formed) h buffer (rw (g .bytes) r))
+
+-- An accepted text and the text printed of its table stand for one table: read into the same buffer they give the same result, length and bytes.
+pub text-back : (text buffer : List ℕ) (w : TableTree) → Accepted text buffer w → length (printed (treeOf (encode w))) ≤ 65536
+    → readTextOf (printed (treeOf (encode w))) buffer ≡ readTextOf text buffer
+text-back text buffer w x h =
+    printed-reads-back (encode w) (text-bytes text w (x .0)) (check-good (encode w) (x .1 .checked)) h buffer (x .1 .room)
+    ∙ sym (accepted-gives text buffer w x)

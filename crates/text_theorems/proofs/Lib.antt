@@ -3,5 +3,6 @@ pub mod Cases
 pub mod Accepted
 pub mod Refused
 pub mod Calls
+pub mod Ranged
 pub mod Printing
 pub mod Back

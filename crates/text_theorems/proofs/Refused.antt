@@ -103,7 +103,9 @@ module _ (text table : List ℕ) where
       there (goodTable w h q r b e) z = absurd (omega (arith, number-of _ _ e, z .0))
 
       back : (length text ≤ 65536) × NoToken false text p → Says text table 49 p
-      back x = said text table (result-of (read-strange text table (x .0) p (strange-exactly (lexed text) p .1 (stops-ends (lexed text) p (none-stops text p (x .1))))))
+      back x =
+          let ends = stops-ends (lexed text) p (none-stops text p (x .1)) in
+          said text table (result-of (read-strange text table (x .0) p (strange-exactly (lexed text) p .1 ends)))
 
   -- ---- 50
 
