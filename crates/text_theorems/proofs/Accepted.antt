@@ -54,8 +54,8 @@ pub accepted-gives : (text table : List ℕ) (w : TableTree) → Accepted text t
 accepted-gives text table w x = read-good text table (x .0 .short) w (text-parsed text w (x .0)) (x .1 .room) (x .1 .checked)
 
 -- A text is accepted exactly if it is one of the grammar, its table fits the buffer, and document 01's check of that table gives 0.
-pub accepted-exactly : (text table : List ℕ) → (readTextOf text table .result .number ≡ 0) ↔ ((w : TableTree) × Accepted text table w)
-accepted-exactly text table = (there (way text table), back)
+pub checked-exactly : (text table : List ℕ) → (readTextOf text table .result .number ≡ 0) ↔ ((w : TableTree) × Accepted text table w)
+checked-exactly text table = (there (way text table), back)
   where
     there : Way text table → readTextOf text table .result .number ≡ 0 → (w : TableTree) × Accepted text table w
     there (long h e) z = absurd (omega (arith, number-of _ _ e))

@@ -5,4 +5,6 @@ pub mod Refused
 pub mod Calls
 pub mod Ranged
 pub mod Printing
+pub mod Encodings
+pub mod Formed
 pub mod Back
