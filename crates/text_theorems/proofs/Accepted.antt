@@ -1,11 +1,10 @@
 -- Which texts are read, and to what: exactly those that the grammar and document 01's table rules allow, to the bytes of the table that they stand for.
-use Prim.Native.Nat.{ℕ, _≤_, _<_}
+use Prim.Native.Nat.{ℕ, _≤_}
 use native.Mathlib.Omega.{arith}
-use mathlib.Core.Path.{_≡_, refl, ap, _∙_}
+use mathlib.Core.Path.{_≡_, ap}
 use mathlib.Core.Logic.{_↔_}
 use mathlib.Core.List.{List, _++_}
 use lib.ListN.{length, drop}
-use Rattle.model.specs.declared.CallResult.{CallResult}
 use Rattle.model.specs.declared.Verdict.the-variants.{Good}
 use Rattle.model.specs.Results.{refusal}
 use Rattle.model.specs.Reading.{readOf}

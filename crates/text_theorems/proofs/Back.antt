@@ -1,6 +1,5 @@
 -- Printing and reading: a good table's text reads back to the same bytes, and an accepted text and the text printed of its table stand for one table.
 use Prim.Native.Nat.{ℕ, _≤_}
-use native.Mathlib.Omega.{arith}
 use mathlib.Core.Path.{_≡_, refl, sym, ap, _∙_, subst}
 use mathlib.Core.List.{List, _++_}
 use lib.ListN.{length, take, drop}
@@ -14,11 +13,10 @@ use Rattle.grammar.specs.Encode.{encode}
 use Rattle.grammar.specs.Layout.{treeOf}
 use Rattle.grammar.specs.WellFormed.{WellFormed}
 use Rattle.grammar.proofs.Grammar.{good-encodes}
-use Rattle.grammar.proofs.Encoded.{tree-back}
 use Rattle.table_front.proofs.Front.{check-good}
 use Rattle.text.specs.Printed.{printed}
 use Rattle.text_reader.specs.ReadText.{ReadCall, readTextOf}
-use Rattle.text_theorems.proofs.Accepted.{TextOf, Accepted, accepted-gives, checked-exactly, formed-accepted}
+use Rattle.text_theorems.proofs.Accepted.{Accepted, accepted-gives, checked-exactly, formed-accepted}
 use Rattle.text_theorems.proofs.Ranged.{text-bytes}
 use Rattle.text_theorems.proofs.Printing.{printed-text}
 

@@ -8,7 +8,6 @@ use Rattle.model.specs.declared.CallResult.{CallResult}
 use Rattle.model.specs.declared.Verdict.{Verdict}
 use Rattle.model.specs.declared.Verdict.the-variants.{Good, Refused}
 use Rattle.model.specs.Results.{refusal}
-use Rattle.model.specs.Reading.{readOf}
 use Rattle.model.specs.Calls.{verdictResult, checkOf}
 use Rattle.text_reader.specs.ReadText.{ReadCall, readRefused, readTextOf}
 use Rattle.text_reader.specs.Passing.{TextGiven}

@@ -1,19 +1,19 @@
 -- The seven ways in which reading a text can end, each with what it is that led there. The theorems on the numbers are read off these.
 use Prim.Native.Nat.{ℕ, zero, suc, _≤_, _<_}
 use native.Mathlib.Omega.{arith}
-use mathlib.Core.Path.{_≡_, refl, sym, ap, _∙_}
-use mathlib.Core.Bool.{Bool, true, false, cond}
-use mathlib.Core.List.{List, _∷_, []}
-use lib.Dec.{ltb, eqb}
+use mathlib.Core.Path.{_≡_, refl, _∙_}
+use mathlib.Core.Bool.{Bool, true, false}
+use mathlib.Core.List.{List}
+use lib.Dec.{ltb}
 use lib.ListN.{length}
-use borrow.Author.Tests.{ltb-true, ltb-false, eqb-true, lt-ltb, le-ltb, ne-eqb, eq-eqb}
+use borrow.Author.Tests.{ltb-true, ltb-false, lt-ltb, le-ltb, ne-eqb, eq-eqb}
 use Rattle.model.specs.Calls.{checkOf}
 use Rattle.model.specs.Results.{refusal}
 use Rattle.grammar.specs.Tree.{TableTree}
 use Rattle.grammar.specs.Encode.{encode}
 use Rattle.text.specs.Tokens.{lexed}
 use Rattle.parsing.specs.Parsed.{Parsed, tree, strange, wrong, unfinished, parsed}
-use Rattle.text_reader.specs.ReadText.{ReadCall, readRefused, readWritten, readChecked, readRoom, readParsed, readTextOf}
+use Rattle.text_reader.specs.ReadText.{readRefused, readWritten, readChecked, readRoom, readParsed, readTextOf}
 
 module _ (text table : List ℕ) where
   -- ---- the tests, one by one

@@ -12,7 +12,6 @@ use Rattle.grammar.specs.Tree.{Formula, HeadTree, GuardTree, ItemTree, fact, fa
 use Rattle.grammar.specs.Encode.{eachBytes, symbolBytes, headBytes, guardBytes, itemBytes, ruleBytes, encode}
 use Rattle.grammar.specs.Layout.{slotOf, expressionOf, noExpression, laidHead, laidGuard, termsIn, usedOf, formulasIn, formulaIn, headTree, guardTree}
 use Rattle.model.specs.declared.Slot.the-variants.{Unused}
-use Rattle.model.specs.declared.Expression.{Expression}
 use Rattle.grammar.proofs.Same.{Same, same-self}
 use Rattle.grammar.proofs.Places.{used-back}
 use Rattle.grammar.proofs.Tests.{term-back, unused-back, comparator-back, formula-back, none-back}

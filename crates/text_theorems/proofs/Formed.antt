@@ -1,7 +1,7 @@
 -- The texts that are accepted, said by the grammar and by what a well-formed tree is, with no word of the check: the tree of a text whose table the check
 -- gives 0 is the one that is read back from that table.
 use Prim.Native.Nat.{ℕ, _≤_}
-use mathlib.Core.Path.{_≡_, subst, sym}
+use mathlib.Core.Path.{_≡_, subst}
 use mathlib.Core.Logic.{_↔_}
 use mathlib.Core.List.{List, _++_}
 use lib.ListN.{length, drop}
@@ -14,7 +14,7 @@ use Rattle.grammar.specs.WellFormed.{WellFormed}
 use Rattle.grammar.proofs.Grammar.{good-encodes}
 use Rattle.table_front.proofs.Front.{check-good}
 use Rattle.parsing.proofs.Ranges.{ranged}
-use Rattle.text_reader.specs.ReadText.{ReadCall, readTextOf}
+use Rattle.text_reader.specs.ReadText.{readTextOf}
 use Rattle.text_theorems.proofs.Accepted.{TextOf, Accepted, text-once, accepted-gives, checked-exactly, formed-accepted}
 use Rattle.text_theorems.proofs.Ranged.{tree-ranged, text-bytes}
 use Rattle.text_theorems.proofs.Printing.{tokens-good, formed-shaped}

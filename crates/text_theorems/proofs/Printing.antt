@@ -1,19 +1,17 @@
 -- A well-formed tree, printed, is a text of that tree: each of its tokens has a spelling, and its counts are those of the grammar.
-use Prim.Native.Nat.{ℕ, suc, _+_, _≤_, _<_}
+use Prim.Native.Nat.{ℕ, suc, _+_, _≤_}
 use native.Mathlib.Omega.{arith}
-use mathlib.Core.Path.{_≡_, refl, sym}
+use mathlib.Core.Path.{sym}
 use mathlib.Core.List.{List, [], _∷_, _++_}
-use lib.IntN.{pos}
 use lib.ListN.{length}
-use Rattle.numbers.specs.Laws.{InRange, pos-ranged}
+use Rattle.numbers.specs.Laws.{pos-ranged}
 use Rattle.model.proofs.Every.{every, every-append, every-weaken}
 use Rattle.grammar.specs.Tree.{Term, Formula, alone, applied, HeadTree, GuardTree, ItemTree, fact, fail, RuleTree, TableTree, headsOf, headTerms}
 use Rattle.grammar.specs.WellFormed.{TermGood, FormulaGood, HeadGood, GuardGood, ItemGood, RuleGood, WellFormed}
 use Rattle.grammar.proofs.Parts.{uses-few}
 use Rattle.text.specs.Token.{Token, symbol, compares, mark, backslash, simplifies, propagates, bar, closes, stop, TokenGood}
 use Rattle.text.specs.Text.{moreTokens, listTokens, bracketTokens, eachTokens, termTokens, formulaTokens, headTokens, guardTokens, itemTokens, headsTokens}
-use Rattle.text.specs.Text.{guardsTokens, bodyTokens, ruleTokens, declarationTokens, declarationsTokens, textTokens, ItemShaped, RuleShaped, Shaped, Text}
-use Rattle.text.specs.Tokens.{lexed, tokensIn, AllTokens}
+use Rattle.text.specs.Text.{guardsTokens, bodyTokens, ruleTokens, declarationTokens, declarationsTokens, textTokens, ItemShaped, RuleShaped, Shaped}
 use Rattle.text.specs.Printed.{printed}
 use Rattle.text.proofs.PrintedBack.{printed-back}
 use Rattle.text_theorems.proofs.Accepted.{TextOf}

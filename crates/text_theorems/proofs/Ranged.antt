@@ -1,9 +1,8 @@
 -- The table of a text is made of bytes, also where it is bad: its symbols, arities and kinds are small, and words are by their making.
-use Prim.Native.Nat.{ℕ, zero, suc, _≤_, _<_}
+use Prim.Native.Nat.{ℕ, zero, suc, _<_}
 use native.Mathlib.Omega.{arith}
-use mathlib.Core.Path.{_≡_}
 use mathlib.Core.List.{List, [], _∷_, _++_}
-use lib.ListN.{length, replicate}
+use lib.ListN.{replicate}
 use Rattle.wire.specs.Wire.{bytes4, bitsOf}
 use Rattle.model.proofs.Every.{every, every-append, every-weaken}
 use Rattle.model.proofs.Lists.{every-replicate}

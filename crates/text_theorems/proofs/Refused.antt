@@ -4,10 +4,10 @@ use native.Mathlib.Omega.{arith}
 use mathlib.Core.Path.{_≡_, refl, sym, ap, _∙_, subst}
 use mathlib.Core.Logic.{_↔_, _⊎_, inl, inr}
 use mathlib.Core.Bool.{false}
-use mathlib.Core.Option.{Option, none, some}
-use mathlib.Core.List.{List, [], _∷_, _++_, List·Memᴰ, List·Memᴰ·head, List·Memᴰ·tail}
+use mathlib.Core.Option.{some}
+use mathlib.Core.List.{List, [], _∷_, List·Memᴰ·head, List·Memᴰ·tail}
 use mathlib.Core.List.{Memᴰ·cast, Memᴰ·append-left}
-use lib.ListN.{length, drop}
+use lib.ListN.{length}
 use Rattle.model.specs.declared.CallResult.{CallResult}
 use Rattle.model.specs.Results.{refusal}
 use Rattle.model.specs.Calls.{verdictResult, checkOf}
@@ -16,7 +16,6 @@ use Rattle.grammar.specs.Tree.{TableTree}
 use Rattle.grammar.specs.Encode.{encode}
 use Rattle.text.specs.Tokens.{Lexed, end, noToken, next, lexed}
 use Rattle.text.proofs.First.{stopsAt, NoToken, stops-none, none-stops}
-use Rattle.parsing.specs.Parsed.{strange, wrong, unfinished, parsed}
 use Rattle.parsing.proofs.Exactly.{EndsAt, WrongAt, Unfinished, wrong-exactly, unfinished-exactly, strange-exactly}
 use Rattle.parsing.proofs.Tables.{Among, only-19-20-22}
 use Rattle.text_reader.specs.ReadText.{ReadCall, readTextOf}
