@@ -12,6 +12,7 @@ use Rattle.grammar.specs.Tree.{comparatorNumber, operationNumber}
 use Rattle.grammar.specs.Layout.{comparatorOf, operationOf}
 use Rattle.grammar.proofs.Tests.{comparator-numbered, operation-numbered}
 use Rattle.text.specs.Token.{markNumber}
+use Rattle.tokens.proofs.Numbered.{mark-back}
 use Rattle.tokens.specs.Views.{tokenOf, markOf, Sane}
 use Rattle.tokens.specs.declared.Token.{Token}
 use Rattle.tokens.specs.declared.Token.the-variants.{Symbol, Variable, Constant, Compares, Operates, Mark}
@@ -20,20 +21,6 @@ use Rattle.assembly.specs.Words.{WordIs}
 
 abbrev made : ℕ → ℕ → ℕ → Word
 made class number value = record { class = class; number = number; value = value }
-
-pub mark-back : (n : ℕ) → n ≤ 9 → markNumber (markOf n) ≡ n
-unfolding markOf
-mark-back zero h = refl
-mark-back (suc zero) h = refl
-mark-back (suc (suc zero)) h = refl
-mark-back (suc (suc (suc zero))) h = refl
-mark-back (suc (suc (suc (suc zero)))) h = refl
-mark-back (suc (suc (suc (suc (suc zero))))) h = refl
-mark-back (suc (suc (suc (suc (suc (suc zero)))))) h = refl
-mark-back (suc (suc (suc (suc (suc (suc (suc zero))))))) h = refl
-mark-back (suc (suc (suc (suc (suc (suc (suc (suc zero)))))))) h = refl
-mark-back (suc (suc (suc (suc (suc (suc (suc (suc (suc zero))))))))) h = refl
-mark-back (suc (suc (suc (suc (suc (suc (suc (suc (suc (suc n)))))))))) h = absurd (omega arith)
 
 operation-back : (n : ℕ) → 1 ≤ n → n ≤ 5 → operationNumber (operationOf n) ≡ n
 operation-back zero g h = absurd (omega arith)

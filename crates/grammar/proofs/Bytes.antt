@@ -15,10 +15,10 @@ use Rattle.grammar.specs.Encode.{eachBytes, placesBytes, termBytes, unus
 use Rattle.grammar.specs.Encode.{ruleBytes, encode, argumentBytes, goalFactBytes, encodeGoal}
 use Rattle.grammar.specs.WellFormed.{HeadGood, GuardGood, ItemGood, RuleGood, WellFormed, GoalFactGood, GoalGood}
 
-abbrev Byte : ℕ → Type 0
+abbrev pub Byte : ℕ → Type 0
 Byte b = b < 256
 
-both : (xs ys : List ℕ) → AreBytes xs → AreBytes ys → AreBytes (xs ++ ys)
+pub both : (xs ys : List ℕ) → AreBytes xs → AreBytes ys → AreBytes (xs ++ ys)
 both xs ys u v = every-append Byte xs ys u v
 
 word : (n : ℕ) → AreBytes (bytes4 n)
@@ -33,19 +33,19 @@ zeros : (n : ℕ) → AreBytes (replicate n 0)
 zeros n = every-replicate Byte n 0 (omega arith)
 
 module _ {A : Type 0} (bytes : A → List ℕ) (Fit : A → Type 0) (one : (x : A) → Fit x → AreBytes (bytes x)) where
-  each : (xs : List A) → every Fit xs → AreBytes (eachBytes bytes xs)
+  pub each : (xs : List A) → every Fit xs → AreBytes (eachBytes bytes xs)
   unfolding eachBytes
   each [] u = tt
   each (x ∷ xs) u = both (bytes x) (eachBytes bytes xs) (one x (u .0)) (each xs (u .1))
 
 module _ {A : Type 0} (bytes : A → List ℕ) (size : ℕ) (one : (x : A) → AreBytes (bytes x)) where
-  places : (n : ℕ) (xs : List A) → AreBytes (placesBytes bytes size n xs)
+  pub places : (n : ℕ) (xs : List A) → AreBytes (placesBytes bytes size n xs)
   unfolding placesBytes
   places zero xs = tt
   places (suc n) [] = both (replicate size 0) _ (zeros size) (places n [])
   places (suc n) (x ∷ xs) = both (bytes x) _ (one x) (places n xs)
 
-term : (a : Term) → AreBytes (termBytes a)
+pub term : (a : Term) → AreBytes (termBytes a)
 unfolding termBytes
 term (constant z) = (omega arith, word (bitsOf z))
 term (variable v) = (omega arith, word v)
@@ -65,12 +65,12 @@ comparator atMost = omega arith
 comparator greater = omega arith
 comparator atLeast = omega arith
 
-formula : (e : Formula) → AreBytes (formulaBytes e)
+pub formula : (e : Formula) → AreBytes (formulaBytes e)
 unfolding formulaBytes
 formula (alone a) = (omega arith, both (termBytes a) unusedSlot (term a) (zeros 5))
 formula (applied o a b) = (operation o, both (termBytes a) (termBytes b) (term a) (term b))
 
-guard : (g : GuardTree) → AreBytes (guardBytes g)
+pub guard : (g : GuardTree) → AreBytes (guardBytes g)
 unfolding guardBytes
 guard g = (omega arith, (comparator (g .comparator), both (formulaBytes (g .left)) (formulaBytes (g .right)) (formula (g .left)) (formula (g .right))))
 
@@ -103,7 +103,7 @@ module _ (arities : List ℕ) (few : length arities ≤ 32) where
   unfolding encodeGoal
   goal-encoding-bytes fs g = each goalFactBytes (GoalFactGood arities) goal-fact fs (g .facts)
 
-symbol : (a : ℕ) → a < 256 → AreBytes (symbolBytes a)
+pub symbol : (a : ℕ) → a < 256 → AreBytes (symbolBytes a)
 unfolding symbolBytes
 symbol a h = (omega arith, (h, tt))
 

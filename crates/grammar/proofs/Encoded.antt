@@ -209,7 +209,7 @@ module _ (w : TableTree) (g : WellFormed w) where
 -- ---- and back
 
 -- what is read back of each part that was laid out is the part
-head-back : (h : HeadTree) → length (h .terms) ≤ 4 → headTree (laidHead h) ≡ h
+pub head-back : (h : HeadTree) → length (h .terms) ≤ 4 → headTree (laidHead h) ≡ h
 unfolding headTree laidHead
 head-back h few = λ i. record { symbol = h .symbol; terms = used-back slotOf Unused termsIn term-back unused-back 4 (h .terms) few i }
 
@@ -217,7 +217,7 @@ formula-in-back : (e : Formula) → formulaIn (expressionOf e) ≡ e
 unfolding formulaIn
 formula-in-back e = rw (formula-back e)
 
-guard-back : (g : GuardTree) → guardTree (laidGuard g) ≡ g
+pub guard-back : (g : GuardTree) → guardTree (laidGuard g) ≡ g
 unfolding guardTree laidGuard
 guard-back g = λ i. record { comparator = comparator-back (g .comparator) i; left = formula-in-back (g .left) i; right = formula-in-back (g .right) i }
 

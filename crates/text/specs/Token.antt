@@ -45,3 +45,7 @@ TokenGood (slot a) = TermGood a
 TokenGood (compares c) = Unit {0}
 TokenGood (operates o) = Unit {0}
 TokenGood (mark m) = Unit {0}
+
+-- "Text is at most 65,536 bytes."
+abbrev pub longestText : ℕ
+longestText = 65536

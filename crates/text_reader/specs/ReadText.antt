@@ -11,12 +11,9 @@ use Rattle.model.specs.declared.CallResult.{CallResult}
 use Rattle.model.specs.Results.{refusal}
 use Rattle.model.specs.Calls.{checkOf}
 use Rattle.grammar.specs.Encode.{encode}
+pub use Rattle.text.specs.Token.{longestText}
 use Rattle.text.specs.Tokens.{lexed}
 use Rattle.parsing.specs.Parsed.{Parsed, tree, strange, wrong, unfinished, parsed}
-
--- "Text is at most 65,536 bytes."
-abbrev pub longestText : ℕ
-longestText = 65536
 
 pub record ReadCall : Type 0 where
   pub result : CallResult

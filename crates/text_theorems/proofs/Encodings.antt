@@ -10,12 +10,12 @@ use Rattle.model.specs.Table.{headAt, guardAt}
 use Rattle.model.proofs.Every.{every, every-both}
 use Rattle.grammar.specs.Tree.{Formula, HeadTree, GuardTree, ItemTree, fact, fail, RuleTree, TableTree}
 use Rattle.grammar.specs.Encode.{eachBytes, symbolBytes, headBytes, guardBytes, itemBytes, ruleBytes, encode}
-use Rattle.grammar.specs.Layout.{slotOf, expressionOf, noExpression, laidHead, laidGuard, termsIn, usedOf, formulasIn, formulaIn, headTree, guardTree}
-use Rattle.model.specs.declared.Slot.the-variants.{Unused}
+use Rattle.grammar.specs.Layout.{expressionOf, noExpression, laidHead, laidGuard, usedOf, formulasIn, headTree, guardTree}
 use Rattle.grammar.proofs.Same.{Same, same-self}
 use Rattle.grammar.proofs.Places.{used-back}
-use Rattle.grammar.proofs.Tests.{term-back, unused-back, comparator-back, formula-back, none-back}
+use Rattle.grammar.proofs.Tests.{formula-back, none-back}
 use Rattle.grammar.proofs.Parts.{head-long, head-decodes, guard-long, guard-decodes, fact-long, fact-decodes}
+use Rattle.grammar.proofs.Encoded.{head-back, guard-back}
 use Rattle.text.specs.Text.{ItemShaped, RuleShaped, Shaped}
 use Rattle.parsing.proofs.Ranges.{HeadRanged, GuardRanged, ItemRanged, RuleRanged, Ranged}
 
@@ -75,18 +75,6 @@ module _ {A : Type 0} (bytes : A → List ℕ) (Fit : A → Type 0) (P Q Next : 
 
 abbrev HeadFit : HeadTree → Type 0
 HeadFit h = HeadRanged h × (length (h .terms) ≤ 4)
-
-head-back : (h : HeadTree) → length (h .terms) ≤ 4 → headTree (laidHead h) ≡ h
-unfolding headTree laidHead
-head-back h few = λ i. record { symbol = h .symbol; terms = used-back slotOf Unused termsIn term-back unused-back 4 (h .terms) few i }
-
-formula-in-back : (e : Formula) → formulaIn (expressionOf e) ≡ e
-unfolding formulaIn
-formula-in-back e = rw (formula-back e)
-
-guard-back : (g : GuardTree) → guardTree (laidGuard g) ≡ g
-unfolding guardTree laidGuard
-guard-back g = λ i. record { comparator = comparator-back (g .comparator) i; left = formula-in-back (g .left) i; right = formula-in-back (g .right) i }
 
 moved : {x y : List ℕ} → x ≡ y → Same x 0 y
 moved {x} {y} e = subst (λ (bs : List ℕ). Same x 0 bs) e (same-self x)

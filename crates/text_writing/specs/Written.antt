@@ -5,10 +5,7 @@ use mathlib.Core.Path.{_≡_}
 use mathlib.Core.List.{List}
 use lib.ListN.{length}
 use lib.Seq.{sets}
-
--- "Text is at most 65,536 bytes."
-abbrev pub longestText : ℕ
-longestText = 65536
+pub use Rattle.text.specs.Token.{longestText}
 
 -- s with the bytes from `at` on, as far as it goes
 unfoldable pub written : ℕ → List ℕ → List ℕ → List ℕ
