@@ -1,5 +1,6 @@
 //! Measuring engines against each other in one process: what they run, and how they are timed.
 
+pub mod large;
 #[cfg(feature = "library")]
 pub mod libraries;
 pub mod loads;

@@ -2,6 +2,7 @@
 
 use std::collections::BTreeMap;
 
+use nadhirukh_host::bench::large::large;
 use nadhirukh_host::bench::loads::{chain, cycles, Load, OldAnswer};
 use nadhirukh_host::bench::older::Standing;
 use nadhirukh_host::bench::quotients::quotients;
@@ -9,11 +10,15 @@ use nadhirukh_host::bench::texts::{printings, readings, Reading};
 use nadhirukh_host::divisions::divides;
 use nadhirukh_host::ending::Ending;
 use nadhirukh_host::format::{ANSWER_LEN, LONGEST_PRINTED, LONGEST_TABLE, MAX_LIMIT, MAX_TEXT};
+use nadhirukh_host::format::{MAX_RULES, MAX_SYMBOLS, PLACES};
+use nadhirukh_host::names::{RuleNumber, Symbol};
 use nadhirukh_host::outcome::Outcome;
+use nadhirukh_host::plain;
+use nadhirukh_host::reference::run::run_read;
 use nadhirukh_host::reference::state::Fact;
-use nadhirukh_host::reference::table::Table;
+use nadhirukh_host::reference::step::{Pruning, Step};
+use nadhirukh_host::reference::table::{Head, Slot, Table};
 use nadhirukh_host::reference::{self, check, goal};
-use nadhirukh_host::{names::Symbol, plain};
 
 fn table(load: &Load) -> Table {
     check::read(&load.table).expect("a load's table is good")
@@ -59,7 +64,7 @@ fn fact(symbol: u8, first: i32, second: i32) -> Fact {
 
 #[test]
 fn runs_are_done_and_both_engines_agree() {
-    for load in cycles().iter().chain(&quotients()) {
+    for load in cycles().iter().chain(&large()).chain(&quotients()) {
         assert_eq!(run(load).0.number, 0, "{}", load.name);
     }
 }
@@ -67,12 +72,120 @@ fn runs_are_done_and_both_engines_agree() {
 #[test]
 fn an_older_library_may_differ_only_where_a_number_below_zero_can_be_divided() {
     let chains = (1..=4).map(|heads| chain(heads, 128));
-    for load in cycles().into_iter().chain(quotients()).chain(chains) {
+    let loads = cycles().into_iter().chain(large()).chain(quotients());
+    for load in loads.chain(chains) {
         let below_zero = |fact: &Fact| fact.arguments.iter().any(|argument| *argument < 0);
         let can_be = table(&load).rules.iter().any(divides) && facts(&load).iter().any(below_zero);
         let may_differ = load.old_answer == OldAnswer::MayDiffer;
         assert_eq!(may_differ, can_be, "{}", load.name);
     }
+}
+
+/// The loads with large tables: of one symbol, then of many.
+fn by_symbols() -> [Load; 2] {
+    match <[Load; 2]>::try_from(large()) {
+        Ok(loads) => loads,
+        Err(loads) => panic!("{} loads have large tables", loads.len()),
+    }
+}
+
+/// How many heads each rule of a table has.
+fn heads_of_rules(table: &Table) -> Vec<usize> {
+    table.rules.iter().map(|rule| rule.heads.len()).collect()
+}
+
+/// How many heads each symbol of a table has: its occurrences.
+fn heads_of_symbols(table: &Table) -> Vec<usize> {
+    let mut heads = vec![0; table.arities.len()];
+    for head in table.rules.iter().flat_map(|rule| &rule.heads) {
+        heads[head.symbol.index()] += 1;
+    }
+    heads
+}
+
+/// The rules that fire for a goal, one by one.
+fn fired(table: &Table, goal: &[Fact]) -> Vec<RuleNumber> {
+    let mut fired = Vec::new();
+    run_read(table, goal, MAX_LIMIT, Pruning::Prune, |step, _| {
+        if let Step::Simplify(firing) | Step::Propagate(firing) = step {
+            fired.push(firing.rule);
+        }
+    });
+    fired
+}
+
+/// A fact that matches a head: each variable is as much as its number, so that they rise.
+fn matching(head: &Head) -> Fact {
+    let mut arguments = [0; PLACES];
+    for (argument, slot) in arguments.iter_mut().zip(&head.slots) {
+        *argument = match *slot {
+            Slot::Constant(value) => value,
+            Slot::Variable(variable) => i32::from(variable.0),
+        };
+    }
+    Fact {
+        symbol: head.symbol,
+        arguments,
+    }
+}
+
+#[test]
+fn large_tables_are_full_of_rules_of_four_heads_of_one_symbol_or_two_of_many() {
+    let [one, many] = by_symbols().map(|load| table(&load));
+    assert_eq!(heads_of_rules(&one), [4; MAX_RULES]);
+    assert_eq!(heads_of_symbols(&one), [256, 0]);
+    assert_eq!(heads_of_rules(&many), [2; MAX_RULES]);
+    assert_eq!(heads_of_symbols(&many), [4; MAX_SYMBOLS]);
+}
+
+#[test]
+fn every_rule_of_a_large_table_can_fire() {
+    for table in large().iter().map(table) {
+        for (number, rule) in table.rules.iter().enumerate() {
+            let goal: Vec<Fact> = rule.heads.iter().map(matching).collect();
+            assert_eq!(fired(&table, &goal), [RuleNumber(number as u8)]);
+        }
+    }
+}
+
+#[test]
+fn some_rules_of_a_large_table_fire_for_its_goal_and_most_do_not() {
+    for load in large() {
+        assert_eq!(facts(&load).len(), 64);
+        let outcome = run(&load).0;
+        assert!(outcome.steps <= 1_000_000, "{}", load.name);
+        let mut fired = fired(&table(&load), &facts(&load));
+        assert_eq!(fired.len(), outcome.firings as usize);
+        fired.sort_by_key(|rule| rule.0);
+        fired.dedup();
+        assert!((8..32).contains(&fired.len()), "{}", load.name);
+    }
+}
+
+#[test]
+fn readings_of_many_symbols_alternate_and_each_symbol_has_two() {
+    let [_, many] = by_symbols();
+    let symbols: Vec<Symbol> = facts(&many).iter().map(|fact| fact.symbol).collect();
+    assert!(symbols.windows(2).all(|two| two[0] != two[1]));
+    for symbol in 0..MAX_SYMBOLS as u8 {
+        let same = symbols.iter().filter(|other| other.0 == symbol);
+        assert_eq!(same.count(), 2, "{}", symbol);
+    }
+}
+
+#[test]
+fn the_readings_of_four_wheels_become_those_of_two_axles() {
+    let [load, _] = by_symbols();
+    let mut axles = BTreeMap::<i32, [i32; 2]>::new();
+    for reading in facts(&load) {
+        let [segment, wheel, friction, _] = reading.arguments;
+        axles.entry(segment).or_default()[wheel as usize / 2] += friction;
+    }
+    let left = axles.into_iter().map(|(segment, [front, rear])| Fact {
+        symbol: Symbol(1),
+        arguments: [segment, front, rear, 0],
+    });
+    assert_eq!(Ending::new(0, left.collect()).facts, run(&load).1);
 }
 
 #[test]

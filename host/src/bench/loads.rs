@@ -100,17 +100,17 @@ fn four_wheels() -> Load {
 }
 
 /// Frictions without an order: the lowest so far stands for a while, then falls.
-fn friction(reading: i32) -> i32 {
+pub fn friction(reading: i32) -> i32 {
     200 + reading * 7919 % 601
 }
 
-/// A goal of 64 facts with two arguments.
-pub fn readings(reading: impl Fn(i32) -> (u8, [i32; 2])) -> Vec<u8> {
+/// A goal of 64 facts with as many arguments each.
+pub fn readings<const ARITY: usize>(reading: impl Fn(i32) -> (u8, [i32; ARITY])) -> Vec<u8> {
     facts(READINGS, reading)
 }
 
-fn facts(count: i32, fact: impl Fn(i32) -> (u8, [i32; 2])) -> Vec<u8> {
-    let facts: Vec<(u8, [i32; 2])> = (0..count).map(fact).collect();
+fn facts<const ARITY: usize>(count: i32, fact: impl Fn(i32) -> (u8, [i32; ARITY])) -> Vec<u8> {
+    let facts: Vec<(u8, [i32; ARITY])> = (0..count).map(fact).collect();
     let facts: Vec<(u8, &[i32])> = facts.iter().map(|(s, a)| (*s, &a[..])).collect();
     goal(&facts)
 }

@@ -76,8 +76,8 @@ fn printed(table: &[u8]) -> Vec<u8> {
     print::text(&read(table)).into_bytes()
 }
 
-/// Symbols of two places, then the rules of the loads in turn, as they are printed, for as long as a
-/// text can be; then spaces.
+/// Symbols of two places, then the rules of the cycles and of the loads that divide in turn, as they
+/// are printed, for as long as a text can be; then spaces.
 fn rules() -> Vec<u8> {
     let loads = cycles().into_iter().chain(quotients());
     let tables: Vec<Table> = loads.map(|load| read(&load.table)).collect();

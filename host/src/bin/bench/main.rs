@@ -7,6 +7,7 @@
 
 mod texts;
 
+use nadhirukh_host::bench::large::large;
 use nadhirukh_host::bench::libraries::{Lent, Library, NEW, OLD};
 use nadhirukh_host::bench::loads::{chain, cycles, Load, OldAnswer};
 use nadhirukh_host::bench::older::Standing;
@@ -28,6 +29,10 @@ fn main() {
     check("table A", &table_a());
     heading("run, a cycle");
     for load in cycles() {
+        run(&load);
+    }
+    heading("run, large tables");
+    for load in large() {
         run(&load);
     }
     heading("run, quotients");
