@@ -1,17 +1,18 @@
 -- The call of a run: its tests in document 01's order, and what is written only for 0.
-use mathlib.Core.Path.{_≡_, refl, sym, ap, _∙_}
+use mathlib.Core.Path.{_≡_, refl, sym, ap, subst, _∙_}
 use mathlib.Core.List.{List}
 use Prim.Native.Nat.{ℕ, zero, suc, _*_, _<_, _≤_}
 use native.Mathlib.Omega.{arith}
 use lib.IntN.{ℤ}
-use lib.ListN.{length}
+use lib.ListN.{length, getD}
 use borrow.Author.Tests.{le-leb, lt-leb}
 use Rattle.model.specs.declared.Stored.{Stored}
 use Rattle.model.specs.declared.Reading.{Reading}
+use Rattle.model.specs.declared.RuleShape.{RuleShape}
 use Rattle.model.specs.declared.CallResult.{CallResult}
 use Rattle.model.specs.declared.Verdict.{Verdict}
 use Rattle.model.specs.declared.Verdict.the-variants.{Good, Refused}
-use Rattle.model.specs.Reading.{readOf}
+use Rattle.model.specs.Reading.{readOf, noShape}
 use Rattle.model.specs.Table.{tableOf}
 use Rattle.model.specs.Goal.{goalVerdict, goalOf}
 use Rattle.model.specs.Steps.{start}
@@ -19,9 +20,11 @@ use Rattle.model.specs.Run.{Ended, run}
 use Rattle.model.specs.Answer.{answered}
 use Rattle.model.specs.Results.{refusal}
 use Rattle.model.specs.Calls.{answerIf, outputOf, runOf}
-use Rattle.model.proofs.Good.{refusal-small, goal-places}
+use Rattle.model.proofs.Good.{GoodTable, good-table, refusal-small, goal-places}
+use Rattle.shapes.specs.Columns.{Narrow, Laid}
+use Rattle.shapes.proofs.Laying.{Laying, laying-begins}
 use Rattle.store.specs.Views.{rowsFrom}
-use Rattle.steps.specs.Arrays.{Finished}
+use Rattle.steps.specs.Arrays.{Begun, Finished}
 use Rattle.engine.specs.Called.{Passed, Ran}
 
 -- ---- the tests
@@ -66,8 +69,21 @@ module _ (t g : List ℕ) (limit : ℕ) (buffer : List ℕ) {reading : Reading} 
           answered = sym (rw (verdict-is good, goal-is fine, le-leb _ _ legal, lt-leb _ _ h) refl);
         }
 
-        pub passed : 2816 ≤ length buffer → Passed t reading g limit buffer
-        passed h = record { read = re; goodTable = good; goodGoal = sym je ∙ fine; legal = legal; roomy = h }
+        pub passed : 2816 ≤ length buffer → {starts parts : List ℕ} {n : ℕ} → Laying reading starts parts n → reading .rules ≤ n
+            → Passed t n starts parts g limit buffer
+        passed h {starts} {parts} {n} l z = record {
+          countable = record {
+            good = verdict-is good;
+            read = rules-are ∙ ap (λ (x : Reading). x .rules) re;
+            laid = subst (λ (x : List RuleShape). Laid n x starts parts) (ap (λ (x : Reading). x .shapes) re) (l .laid);
+          };
+          goodGoal = goal-is fine;
+          legal = legal;
+          roomy = h;
+        }
+          where
+            rules-are : n ≡ reading .rules
+            rules-are = omega (arith, l .few)
 
         pub all-passed : 2816 ≤ length buffer → {r : CallResult} {after : List ℕ} → Ran (outputOf (run (tableOf t) limit (start (goalOf g))) buffer) r after
             → Ran (runOf t g limit buffer) r after
@@ -76,6 +92,43 @@ module _ (t g : List ℕ) (limit : ℕ) (buffer : List ℕ) {reading : Reading} 
           result = q .result ∙ sym (rw (verdict-is good, goal-is fine, le-leb _ _ legal, le-leb _ _ h) refl);
           answered = q .answered ∙ sym (rw (verdict-is good, goal-is fine, le-leb _ _ legal, le-leb _ _ h) refl);
         }
+
+-- ---- the index of rules
+
+module _ (t : List ℕ) {reading : Reading} (re : reading ≡ readOf t) (good : reading .verdict ≡ Good) where
+  sound : GoodTable t
+  sound = good-table t (ap (λ (x : Reading). x .verdict) (sym re) ∙ good)
+
+  as-read : reading .rules ≡ readOf t .rules
+  as-read = ap (λ (x : Reading). x .rules) re
+
+  narrow : (i : ℕ) → i < reading .rules → Narrow (getD (reading .shapes) i noShape)
+  narrow i h =
+      let at = ap (λ (x : Reading). getD (x .shapes) i noShape) re in
+      let r = sound .each i (omega (arith, as-read)) in
+      rw at (record {
+        kept = omega (arith, r .keptFew, r .fewHeads);
+        heads = omega (arith, r .fewHeads);
+        guards = omega (arith, r .fewGuards);
+        items = omega (arith, r .fewItems);
+      })
+
+  pub index-begins : {starts parts : List ℕ} → length starts ≡ 64 → length parts ≡ 64 → Laying reading starts parts 0
+  index-begins ws wp = laying-begins (omega (arith, as-read, sound .fewRules)) narrow (record { inStarts = ws; inParts = wp })
+
+-- ---- what is handed to the steps
+
+pub steps-begin : {t : List ℕ} {rules : ℕ} {starts parts g : List ℕ} {limit : ℕ} {answer : List ℕ} → Passed t rules starts parts g limit answer
+    → {symbols ids : List ℕ} {args : List ℤ} → length symbols ≡ 128 → length ids ≡ 128 → length args ≡ 512
+    → Begun t rules starts parts g limit symbols ids args
+steps-begin p ws wi wa = record {
+  countable = p .countable;
+  goodGoal = p .goodGoal;
+  legal = p .legal;
+  wholeSymbols = ws;
+  wholeIds = wi;
+  wholeArgs = wa;
+}
 
 -- ---- the answer
 

@@ -1,12 +1,10 @@
 // The engine: from a table's and a goal's bytes to a result and an answer. The state of a run lives in one frame and is changed in place.
 use model::Answer;
 use model::CallResult;
-use model::Reading;
 use model::StepLimit;
 use model::Table;
 use model::Verdict;
 ghost use mathlib.Core.Path.{_≡_};
-ghost use lib.ListN.{replicate};
 ghost use Rattle.model.specs.Calls.{outputOf, runOf};
 ghost use Rattle.model.specs.Goal.{goalOf};
 ghost use Rattle.model.specs.Run.{run};
@@ -14,44 +12,29 @@ ghost use Rattle.model.specs.Steps.{start};
 ghost use Rattle.model.specs.Table.{tableOf};
 ghost use Rattle.engine.specs.Called.{Passed, Ran};
 
-fn no_starts() -> [u16; Table::SYMBOLS + 1]
-    ensures { λ r. ⌜ r ≡ replicate 33 0 ⌝ }
-{
-    [0u16; Table::SYMBOLS + 1]
-}
-
-fn no_places() -> [u8; Table::PLACES]
-    ensures { λ r. ⌜ r ≡ replicate 256 0 ⌝ }
-{
-    [0u8; Table::PLACES]
-}
-
 // A run whose table, goal, limit and buffer are good. "The answer buffer is written only for 0".
 fn run_passed(
     table: &[u8],
-    reading: Reading,
+    rules: u8,
+    starts: &[u32; Table::RULES],
+    parts: &[u32; Table::RULES],
     goal: &[u8],
     limit: u32,
     answer: &mut [u8],
 ) -> CallResult
-    requires { ⌜ Passed (now table) reading (now goal) limit (now answer) ⌝ }
+    requires { ⌜ Passed (now table) rules (now starts) (now parts) (now goal) limit (now answer) ⌝ }
     ensures { λ r. ⌜ Ran (outputOf (run (tableOf (now (table .entry))) limit (start (goalOf (now (goal .entry))))) (now (answer .entry))) r (now (answer .exit)) ⌝ }
 {
-    let mut first = no_starts();
-    let mut rules = no_places();
-    let mut heads = no_places();
-    occurrences::list_occurrences(table, reading, &mut first, &mut rules, &mut heads);
     let mut symbols = store::columns::no_symbols();
     let mut ids = store::columns::no_ids();
     let mut args = store::columns::no_args();
     let result = steps::take(
         table,
-        reading,
+        rules,
+        starts,
+        parts,
         goal,
         limit,
-        &first,
-        &rules,
-        &heads,
         &mut symbols,
         &mut ids,
         &mut args,
@@ -84,7 +67,16 @@ pub fn run(table: &[u8], goal: &[u8], limit: u32, answer: &mut [u8]) -> CallResu
                     if answer.len() < Answer::MIN {
                         return CallResult::refusal(36, 0);
                     }
-                    run_passed(table, reading, goal, limit, answer)
+                    // The index of rules, in columns that can be lent: a reading would be copied at each call.
+                    let mut starts = shapes::no_words();
+                    let mut parts = shapes::no_words();
+                    let mut rule: u8 = 0;
+                    while rule < reading.rules {
+                        let i = rule as usize;
+                        shapes::put(&mut starts, &mut parts, i, reading.shapes[i]);
+                        rule += 1;
+                    }
+                    run_passed(table, rule, &starts, &parts, goal, limit, answer)
                 }
             }
         }

@@ -1,5 +1,5 @@
-pub mod Total
-pub mod Lists
-pub mod Filling
-pub mod Finding
+pub mod Elements
+pub mod Behind
+pub mod Marks
+pub mod Counting
 pub mod Only

@@ -2,7 +2,7 @@
 use mathlib.Core.Path.{_≡_, sym, _∙_}
 use mathlib.Core.Option.{Option}
 use Rattle.model.specs.declared.HeadPlace.{HeadPlace}
-use Rattle.occurrences.specs.Listing.{foundPlace}
+use Rattle.occurrences.specs.Counting.{foundPlace}
 use Rattle.occurrences.specs.declared.Spot.{Spot}
 use Rattle.occurrences.specs.declared.Spot.the-variants.{At, Nothing}
 

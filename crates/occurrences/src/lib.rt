@@ -1,17 +1,13 @@
-// The head places of each symbol, listed once at the beginning of a run: "Occurrences of a symbol are counted from 1 over rules from first to last,
-// and inside a rule from the last head to the first". The list is three arrays of numbers: where each symbol's places start, and each
-// place's rule and head. Only `place_of` reads them.
+// The place of an occurrence, counted through the rule heads when it is asked for: "Occurrences of a symbol are counted from 1 over rules from first
+// to last, and inside a rule from the last head to the first". A run keeps a mark on the last place that it found. Counting goes on from there, so
+// that a fact's way over its occurrences passes each head once.
 ghost use mathlib.Core.Path.{_≡_};
-ghost use mathlib.Core.List.{_++_};
-ghost use Prim.Native.Nat.{_+_, _-_};
-ghost use lib.ListN.{length, getElem?};
-ghost use Rattle.model.specs.Reading.{readOf};
+ghost use Prim.Native.Nat.{_-_};
+ghost use lib.ListN.{getElem?};
 ghost use Rattle.model.specs.Table.{tableOf, places};
-ghost use Rattle.model.specs.declared.Verdict.the-variants.{Good};
-ghost use Rattle.occurrences.specs.Listing.{listOf, rulePlaces, foundPlace, Room, RuleAsked, SymbolAsked, Holds, Listed};
+ghost use Rattle.occurrences.specs.Counting.{foundPlace, placesBehind, placesLeft, noMark, markOf, isOn, HeadsLie, Looked, Countable, Standing, Marked};
 use model::HeadPlace;
 use model::Occurrence;
-use model::Reading;
 use model::RuleNumber;
 use model::RuleShape;
 use model::Symbol;
@@ -24,121 +20,171 @@ pub enum Spot {
     Nothing,
 }
 
-// Lists the places of a symbol in one rule, from the last head to the first, behind `count` places. Gives the new count.
-fn list_rule(
-    table: &[u8],
-    symbol: Symbol,
-    rule: RuleNumber,
-    shape: RuleShape,
-    count: usize,
-    rules: &mut [u8; Table::PLACES],
-    heads: &mut [u8; Table::PLACES],
-) -> usize
-    requires { ⌜ RuleAsked (now table) symbol (rule .0) shape count (now rules) (now heads) ⌝ }
-    ensures { λ r. ⌜ Holds (listOf (now (rules .entry)) (now (heads .entry)) count ++ rulePlaces (now (table .entry)) symbol (rule .0) shape)
-        (now (rules .exit)) (now (heads .exit)) r ⌝ }
-{
-    let mut n = count;
-    let mut k = shape.heads;
-    while 0 < k {
-        k -= 1;
-        let p = geometry::head_start(shape, k as usize) + HeadBytes::SYMBOL;
-        if table[p] == symbol.0 {
-            rules[n] = rule.0;
-            heads[n] = k;
-            n += 1;
-        }
-    }
-    n
+// The occurrence found last, and its place. Occurrences count from 1; at 0 none is found yet.
+pub struct Mark {
+    pub symbol: Symbol,
+    pub occurrence: Occurrence,
+    pub place: HeadPlace,
 }
 
-// Lists the places of a symbol in all rules, from the first to the last.
-fn list_symbol(
-    table: &[u8],
-    reading: Reading,
-    symbol: Symbol,
-    count: usize,
-    rules: &mut [u8; Table::PLACES],
-    heads: &mut [u8; Table::PLACES],
-) -> usize
-    requires { ⌜ SymbolAsked (now table) symbol reading count (now rules) (now heads) ⌝ }
-    ensures { λ r. ⌜ Holds (listOf (now (rules .entry)) (now (heads .entry)) count ++ places (tableOf (now (table .entry))) symbol)
-        (now (rules .exit)) (now (heads .exit)) r ⌝ }
-{
-    let mut n = count;
-    let mut rule: u8 = 0;
-    while rule < reading.rules {
-        let i = rule as usize;
-        let shape = reading.shapes[i];
-        n = list_rule(table, symbol, RuleNumber(rule), shape, n, rules, heads);
-        rule += 1;
-    }
-    n
+// What counting comes to in a rule: the head that is asked for, or how many places are still to be passed behind it.
+pub enum Look {
+    Found(u8),
+    Left(u16),
 }
 
-// "A run begins by listing each symbol's head places in this order."
-pub fn list_occurrences(
-    table: &[u8],
-    reading: Reading,
-    first: &mut [u16; Table::SYMBOLS + 1],
-    rules: &mut [u8; Table::PLACES],
-    heads: &mut [u8; Table::PLACES],
-)
-    requires { ⌜ (reading ≡ readOf (now table)) × (reading .verdict ≡ Good) × (length (now first) ≡ 33) × Room (now rules) (now heads) ⌝ }
-    ensures { λ _. ⌜ Listed (now (table .entry)) (now (first .exit)) (now (rules .exit)) (now (heads .exit)) ⌝ }
+// The mark of a run that begins.
+pub fn no_mark() -> Mark
+    ensures { λ r. ⌜ r ≡ noMark ⌝ }
 {
-    let mut count: usize = 0;
-    let mut s: u8 = 0;
-    while s < reading.symbols {
-        let i = s as usize;
-        first[i] = count as u16;
-        count = list_symbol(table, reading, Symbol(s), count, rules, heads);
-        s += 1;
+    Mark {
+        symbol: Symbol(0),
+        occurrence: Occurrence(0),
+        place: HeadPlace {
+            rule: RuleNumber(0),
+            head: 0,
+        },
     }
-    while (s as usize) <= Table::SYMBOLS {
-        let i = s as usize;
-        first[i] = count as u16;
-        s += 1;
+}
+
+// The mark after an answer about occurrence j: it moves to the place, where there is one.
+pub fn mark_of(before: Mark, symbol: Symbol, j: Occurrence, found: Spot) -> Mark
+    ensures { λ r. ⌜ r ≡ markOf before symbol j found ⌝ }
+{
+    match found {
+        Spot::At(place) => Mark {
+            symbol: symbol,
+            occurrence: j,
+            place: place,
+        },
+        Spot::Nothing => before,
     }
+}
+
+// Whether the mark is on a place of the symbol.
+fn is_on(mark: Mark, symbol: Symbol) -> bool
+    ensures { λ r. ⌜ r ≡ isOn mark symbol ⌝ }
+{
+    let marked = mark.symbol;
+    let at = mark.occurrence;
+    if marked.0 == symbol.0 {
+        return 0 < at.0;
+    }
+    false
 }
 
 // Occurrences count from 1.
-fn index_of(j: Occurrence) -> usize
+fn index_of(j: Occurrence) -> u16
     ensures { λ r. ⌜ r ≡ j .0 - 1 ⌝ }
 {
     let n = j.0;
     if n == 0 {
         return 0;
     }
-    (n - 1) as usize
+    n - 1
 }
 
-// The place of occurrence j of a symbol, where it has one.
+// Looks through the first k heads of a rule, from the last to the first, for the place behind `left` others.
+fn in_rule(table: &[u8], shape: RuleShape, k: u8, symbol: Symbol, left: u16) -> Look
+    requires { ⌜ HeadsLie (now table) shape k ⌝ }
+    ensures { λ r. ⌜ Looked (now (table .entry)) shape k symbol left r ⌝ }
+{
+    let mut n = left;
+    let mut head = k;
+    while 0 < head {
+        head -= 1;
+        let p = geometry::head_start(shape, head as usize) + HeadBytes::SYMBOL;
+        if table[p] == symbol.0 {
+            if n == 0 {
+                return Look::Found(head);
+            }
+            n -= 1;
+        }
+    }
+    Look::Left(n)
+}
+
+// Looks through the rules from `first` on, for the place behind `left` others.
+fn from_rule(
+    table: &[u8],
+    rules: u8,
+    starts: &[u32; Table::RULES],
+    parts: &[u32; Table::RULES],
+    first: u8,
+    symbol: Symbol,
+    left: u16,
+) -> Spot
+    requires { ⌜ Countable (now table) rules (now starts) (now parts) ⌝ }
+    ensures { λ r. ⌜ foundPlace r ≡ getElem? (placesBehind (tableOf (now (table .entry))) symbol first) left ⌝ }
+{
+    let mut n = left;
+    let mut rule = first;
+    while rule < rules {
+        let shape = shapes::shape_at(starts, parts, rule as usize);
+        let look = in_rule(table, shape, shape.heads, symbol, n);
+        match look {
+            Look::Found(head) => {
+                return Spot::At(HeadPlace {
+                    rule: RuleNumber(rule),
+                    head: head,
+                });
+            }
+            Look::Left(m) => {
+                n = m;
+            }
+        }
+        rule += 1;
+    }
+    Spot::Nothing
+}
+
+// Looks behind a place: through the heads below its own, and the rules behind its own.
+fn from_place(
+    table: &[u8],
+    rules: u8,
+    starts: &[u32; Table::RULES],
+    parts: &[u32; Table::RULES],
+    place: HeadPlace,
+    symbol: Symbol,
+    left: u16,
+) -> Spot
+    requires { ⌜ Countable (now table) rules (now starts) (now parts) × Standing (now table) place ⌝ }
+    ensures { λ r. ⌜ foundPlace r ≡ getElem? (placesLeft (tableOf (now (table .entry))) symbol (place .rule .0) (place .head)) left ⌝ }
+{
+    let rule = place.rule;
+    let shape = shapes::shape_at(starts, parts, rule.0 as usize);
+    let look = in_rule(table, shape, place.head, symbol, left);
+    match look {
+        Look::Found(head) => Spot::At(HeadPlace {
+            rule: rule,
+            head: head,
+        }),
+        Look::Left(n) => from_rule(table, rules, starts, parts, rule.0 + 1, symbol, n),
+    }
+}
+
+// The place of occurrence j of a symbol, where it has one. The way to it goes on from the mark, if it leads over that.
 pub fn place_of(
     table: &[u8],
-    first: &[u16; Table::SYMBOLS + 1],
-    rules: &[u8; Table::PLACES],
-    heads: &[u8; Table::PLACES],
+    rules: u8,
+    starts: &[u32; Table::RULES],
+    parts: &[u32; Table::RULES],
+    mark: Mark,
     symbol: Symbol,
     j: Occurrence,
 ) -> Spot
-    requires { ⌜ Listed (now table) (now first) (now rules) (now heads) ⌝ }
+    requires { ⌜ Countable (now table) rules (now starts) (now parts) × Marked (now table) mark ⌝ }
     ensures { λ r. ⌜ foundPlace r ≡ getElem? (places (tableOf (now (table .entry))) symbol) (j .0 - 1) ⌝ }
 {
-    let s = symbol.0 as usize;
-    if Table::SYMBOLS <= s {
-        return Spot::Nothing;
+    let at = mark.occurrence;
+    let marked = mark.place;
+    if is_on(mark, symbol) {
+        if at.0 < j.0 {
+            return from_place(table, rules, starts, parts, marked, symbol, j.0 - at.0 - 1);
+        }
+        if at.0 == j.0 {
+            return Spot::At(marked);
+        }
     }
-    let start = first[s] as usize;
-    let end = first[s + 1] as usize;
-    let k = index_of(j);
-    if end - start <= k {
-        return Spot::Nothing;
-    }
-    let at = start + k;
-    let place = HeadPlace {
-        rule: RuleNumber(rules[at]),
-        head: heads[at],
-    };
-    Spot::At(place)
+    from_rule(table, rules, starts, parts, 0, symbol, index_of(j))
 }

@@ -29,11 +29,13 @@ use Rattle.model.specs.Steps.{State, noStored, bodyEntries, gone, keep, without
 use Rattle.model.specs.Steps.{isRemoved, fired, Outcome, moves, fires, fails, stops, withinHistory, withinStack, withBody, withFound, atPlace}
 use Rattle.model.specs.Steps.{stepWith, stepItem}
 use Rattle.model.proofs.Good.{GoodTable, GoodRule, good-table}
-use Rattle.model.proofs.Decoded.{rule-at, rule-kept, rule-removed, rule-body, heads-none, heads-first, heads-length, places-few, PlaceShape, places-shape}
+use Rattle.model.proofs.Decoded.{rule-at, rule-kept, rule-removed, rule-body, heads-none, heads-first, heads-length, places-few}
 use Rattle.model.proofs.Every.{every}
 use Rattle.occurrences.specs.declared.Spot.{Spot}
 use Rattle.occurrences.specs.declared.Spot.the-variants.{At, Nothing as Unplaced}
-use Rattle.occurrences.specs.Listing.{foundPlace}
+use Rattle.occurrences.specs.declared.Mark.{Mark}
+use Rattle.occurrences.specs.Counting.{foundPlace, markOf, Standing, Marked}
+use Rattle.occurrences.proofs.Marks.{placed-stands, mark-moves}
 use Rattle.search.specs.declared.Trial.{Trial as Answer}
 use Rattle.search.specs.declared.Trial.the-variants.{Applies, Nothing, UndefinedGuard}
 use Rattle.chosen.specs.Views.{idsOf}
@@ -46,7 +48,7 @@ use Rattle.step.specs.declared.Decision.the-variants.{Activate, Drop, De
 use Rattle.records.specs.Geometry.{ItemsLie}
 use Rattle.values.specs.Views.{entriesMade, Room, BodyWorked}
 use Rattle.step.specs.Deciding.{baseOf, roomOf, placeOf, factOf, ruleFound, firedAs, topped, outcomeOf, Sure, Seen, instanceOf, applyOf, CameTo}
-use Rattle.step.specs.Deciding.{storedAs, Applying, Applied, Tried, Asked, Decided}
+use Rattle.step.specs.Deciding.{markAfter, storedAs, Applying, Applied, Tried, Asked, Decided}
 use Rattle.store.proofs.Stock.{rows-length}
 use Rattle.records.proofs.PartsLie.{items-lie}
 use Rattle.values.proofs.Worked.{made-count}
@@ -67,6 +69,32 @@ module _ (t : Table) (s : Symbol) {x : Item} where
   pub fail-nowhere : x ≡ Fail → foundPlace Unplaced ≡ placeOf t s x
   unfolding foundPlace placeOf
   fail-nowhere e = rw e
+
+-- the mark after an answer about an entry
+
+module _ (m : Mark) (s : Symbol) {x : Item} (found : Spot) where
+  pub waiting-unmarked : {f : Fact} → x ≡ Waiting f → m ≡ markAfter m s x found
+  unfolding markAfter
+  waiting-unmarked e = rw e refl
+
+  pub active-marked : {i : FactId} {j : Occurrence} → x ≡ Active i j → {n : Mark} → n ≡ markOf m s j found → n ≡ markAfter m s x found
+  unfolding markAfter
+  active-marked e q = rw e q
+
+  pub fail-unmarked : x ≡ Fail → m ≡ markAfter m s x found
+  unfolding markAfter
+  fail-unmarked e = rw e refl
+
+still-marked : {t : List ℕ} {m : Mark} → Marked t m → (s : Symbol) (x : Item) (found : Spot) → foundPlace found ≡ placeOf (tableOf t) s x
+    → Marked t (markAfter m s x found)
+unfolding placeOf markAfter
+still-marked w s (Waiting f) found e = w
+still-marked w s (Active i j) found e = mark-moves w s j found e
+still-marked w s Fail found e = w
+
+pub mark-follows : {t : List ℕ} {m n : Mark} → Marked t m → (s : Symbol) (x : Item) (found : Spot) → foundPlace found ≡ placeOf (tableOf t) s x
+    → n ≡ markAfter m s x found → Marked t n
+mark-follows {t} w s x found e q = subst (Marked t) (sym q) (still-marked w s x found e)
 
 pub rule-there : {found : Spot} {p : HeadPlace} → found ≡ At p → p .rule .0 ≡ ruleFound found
 unfolding ruleFound
@@ -95,28 +123,20 @@ held [] i x e = absurd (let z : _≡_ {A = ℕ} 0 1 = cc in omega arith)
 held (y ∷ l) zero x e = omega arith
 held (y ∷ l) (suc i) x e = omega (arith, held l i x e)
 
-held-every : {A : Type 0} (P : A → Type 0) (l : List A) (i : ℕ) (x : A) → getElem? l i ≡ some x → every P l → P x
-held-every P [] i x e u = absurd (let z : _≡_ {A = ℕ} 0 1 = cc in omega arith)
-held-every P (y ∷ l) zero x e u = let q : y ≡ x = cc in subst P q (u .0)
-held-every P (y ∷ l) (suc i) x e u = held-every P l i x e (u .1)
+-- the rule of a place that an entry has is one of the table's
+pub rule-placed : {t : List ℕ} → GoodTable t → (s : Symbol) (x : Item) (p : HeadPlace) → foundPlace (At p) ≡ placeOf (tableOf t) s x
+    → p .rule .0 < readOf t .rules
+unfolding foundPlace placeOf
+rule-placed g s (Waiting f) p e = absurd (let u : _≡_ {A = ℕ} 0 1 = cc in omega arith)
+rule-placed {t} g s (Active i j) p e = placed-stands t g s (j .0 - 1) p (sym e) .ruleIn
+rule-placed g s Fail p e = absurd (let u : _≡_ {A = ℕ} 0 1 = cc in omega arith)
 
-placed-good : (t : List ℕ) → GoodTable t → (s : Symbol) (i : ℕ) (p : HeadPlace) → getElem? (places (tableOf t) s) i ≡ some p → PlaceShape t p
-placed-good t g s i p e = held-every (PlaceShape t) (places (tableOf t) s) i p e (places-shape t g s)
-
--- the rule that is looked up lies in the index of shapes
+-- the rule that is looked up lies in the columns of shapes
 pub rule-in : {t : List ℕ} → GoodTable t → (s : Symbol) (x : Item) (found : Spot) → foundPlace found ≡ placeOf (tableOf t) s x → {n : ℕ}
     → n ≡ ruleFound found → n < 64
-unfolding foundPlace placeOf ruleFound
-rule-in {t} g s x found e {n} q = go x found e q
-  where
-    never : {p : HeadPlace} → _≡_ {A = Option HeadPlace} (some p) none → n < 64
-    never z = absurd (let u : _≡_ {A = ℕ} 0 1 = cc in omega arith)
-
-    go : (x : Item) (found : Spot) → foundPlace found ≡ placeOf (tableOf t) s x → n ≡ ruleFound found → n < 64
-    go (Waiting f) (At p) e q = never e
-    go (Active i j) (At p) e q = omega (arith, placed-good t g s (j .0 - 1) p (sym e) .ruleIn, g .fewRules)
-    go Fail (At p) e q = never e
-    go x Unplaced e q = omega arith
+unfolding ruleFound
+rule-in g s x (At p) e q = omega (arith, rule-placed g s x p e, g .fewRules)
+rule-in g s x Unplaced e q = omega arith
 
 -- ---- small facts about what a firing leaves
 
@@ -498,8 +518,8 @@ module _ {t : List ℕ} {e : Entry} {found : Spot} {shape : RuleShape} {depth st
       unfolding ruleFound
       tried =
           let g : GoodTable t = good-table t (r .goodTable) in
-          let w : PlaceShape t p = placed-good t g (e .symbol) (j .0 - 1) p place-is in
-          let is : shape ≡ getD (readOf t .shapes) (p .rule .0) noShape = r .is ∙ rw fe refl in
+          let w : Standing t p = placed-stands t g (e .symbol) (j .0 - 1) p place-is in
+          let is : shape ≡ getD (readOf t .shapes) (p .rule .0) noShape = r .is p fe in
           record {
             goodTable = r .goodTable;
             ruleIn = w .ruleIn;

@@ -25,7 +25,8 @@ use Rattle.model.specs.Search.{Fired, firedOf}
 use Rattle.model.specs.Steps.{State, noStored, bodyEntries, without, pruned, activated, dropped, Outcome, moves, fires, fails, stops}
 use Rattle.occurrences.specs.declared.Spot.{Spot}
 use Rattle.occurrences.specs.declared.Spot.the-variants.{At, Nothing}
-use Rattle.occurrences.specs.Listing.{foundPlace}
+use Rattle.occurrences.specs.declared.Mark.{Mark}
+use Rattle.occurrences.specs.Counting.{foundPlace, markOf}
 use Rattle.chosen.specs.Views.{idsOf, Held}
 use Rattle.step.specs.declared.Instance.{Instance}
 use Rattle.step.specs.declared.Decision.{Decision}
@@ -40,6 +41,12 @@ unfoldable pub placeOf : Table → Symbol → Item → Option HeadPlace
 placeOf t s (Waiting f) = none
 placeOf t s (Active i j) = getElem? (places t s) (j .0 - 1)
 placeOf t s Fail = none
+
+-- the mark after an answer about an entry: an active one moves it
+unfoldable pub markAfter : Mark → Symbol → Item → Spot → Mark
+markAfter m s (Waiting f) found = m
+markAfter m s (Active i j) found = markOf m s j found
+markAfter m s Fail found = m
 
 -- the rule of a place, for the index of shapes
 unfoldable pub ruleFound : Spot → ℕ
@@ -175,7 +182,7 @@ pub record Tried (t : List ℕ) (p : HeadPlace) (shape : RuleShape) (j depth sto
 pub record Asked (t : List ℕ) (e : Entry) (found : Spot) (shape : RuleShape) (depth stored noted : ℕ) (past : List (List ℕ)) (made : List ℤ) : Type 0 where
   pub goodTable : readOf t .verdict ≡ Good
   pub placed : foundPlace found ≡ placeOf (tableOf t) (e .symbol) (e .item)
-  pub is : shape ≡ getD (readOf t .shapes) (ruleFound found) noShape
+  pub is : (p : HeadPlace) → found ≡ At p → shape ≡ getD (readOf t .shapes) (p .rule .0) noShape
   pub deep : 0 < depth
   pub deepFew : depth ≤ stackRoom
   pub fewStored : stored ≤ storeRoom

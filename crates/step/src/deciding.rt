@@ -16,6 +16,7 @@ use model::Store;
 use model::Stored;
 use model::Symbol;
 use model::Table;
+use occurrences::Mark;
 use occurrences::Spot;
 use records::geometry;
 use search::Quest;
@@ -26,30 +27,43 @@ ghost use mathlib.Core.Path.{_≡_};
 ghost use mathlib.Core.Option.{some};
 ghost use Rattle.model.specs.Table.{tableOf};
 ghost use Rattle.model.specs.Steps.{noStored, prunes, activeEntry, atPlace, stepItem};
-ghost use Rattle.occurrences.specs.Listing.{foundPlace, Listed};
+ghost use Rattle.occurrences.specs.Counting.{foundPlace, Countable, Marked};
 ghost use Rattle.values.specs.Views.{bindingOf};
 ghost use Rattle.history.specs.Views.{pastOf};
 ghost use Rattle.store.specs.Views.{rowsFrom};
-ghost use Rattle.step.specs.Deciding.{placeOf, factOf, ruleFound, Applying, Applied, Tried, Asked, Decided};
+ghost use Rattle.step.specs.Deciding.{placeOf, markAfter, factOf, ruleFound, Applying, Applied, Tried, Asked, Decided};
 
 // The place where an active entry stands; other entries have none.
 pub fn place_of_entry(
     table: &[u8],
-    first: &[u16; Table::SYMBOLS + 1],
-    rules: &[u8; Table::PLACES],
-    heads: &[u8; Table::PLACES],
+    rules: u8,
+    starts: &[u32; Table::RULES],
+    parts: &[u32; Table::RULES],
+    mark: Mark,
     e: Entry,
 ) -> Spot
-    requires { ⌜ Listed (now table) (now first) (now rules) (now heads) ⌝ }
+    requires { ⌜ Countable (now table) rules (now starts) (now parts) × Marked (now table) mark ⌝ }
     ensures { λ r. ⌜ foundPlace r ≡ placeOf (tableOf (now (table .entry))) (e .symbol) (e .item) ⌝ }
 {
     let item = e.item;
     match item {
         Item::Waiting(fact) => Spot::Nothing,
         Item::Active(id, occurrence) => {
-            occurrences::place_of(table, first, rules, heads, e.symbol, occurrence)
+            occurrences::place_of(table, rules, starts, parts, mark, e.symbol, occurrence)
         }
         Item::Fail => Spot::Nothing,
+    }
+}
+
+// The mark after an answer about an entry: an active one moves it.
+pub fn mark_of_entry(mark: Mark, e: Entry, found: Spot) -> Mark
+    ensures { λ r. ⌜ r ≡ markAfter mark (e .symbol) (e .item) found ⌝ }
+{
+    let item = e.item;
+    match item {
+        Item::Waiting(fact) => mark,
+        Item::Active(id, occurrence) => occurrences::mark_of(mark, e.symbol, occurrence, found),
+        Item::Fail => mark,
     }
 }
 

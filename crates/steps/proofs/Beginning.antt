@@ -15,9 +15,10 @@ use Rattle.model.specs.declared.Item.the-variants.{Waiting}
 use Rattle.model.specs.declared.Entry.{Entry}
 use Rattle.model.specs.declared.Item.{Item}
 use Rattle.model.specs.declared.Symbol.{Symbol}
-use Rattle.model.specs.declared.Reading.{Reading}
+use Rattle.model.specs.declared.HeadPlace.{HeadPlace}
+use Rattle.model.specs.declared.RuleShape.{RuleShape}
 use Rattle.model.specs.declared.CallResult.{CallResult}
-use Rattle.model.specs.Reading.{readOf, noShape}
+use Rattle.model.specs.Reading.{readOf}
 use Rattle.model.specs.Goal.{goalOf, factAt}
 use Rattle.model.specs.Steps.{waiting}
 use Rattle.model.specs.Results.{countsOf, resultOf}
@@ -25,13 +26,17 @@ use Rattle.model.specs.Run.{Ended}
 use Rattle.model.proofs.Good.{GoodTable, good-table, GoodGoal, good-goal}
 use Rattle.model.proofs.Decoded.{goal-at, goal-length}
 use Rattle.model.specs.Table.{tableOf}
+use Rattle.shapes.specs.Columns.{shapeAt}
 use Rattle.occurrences.specs.declared.Spot.{Spot}
-use Rattle.occurrences.specs.Listing.{foundPlace}
+use Rattle.occurrences.specs.declared.Spot.the-variants.{At}
+use Rattle.occurrences.specs.declared.Mark.{Mark}
+use Rattle.occurrences.specs.Counting.{foundPlace, noMark, Marked}
+use Rattle.occurrences.proofs.Marks.{no-mark-yet}
 use Rattle.store.specs.Views.{Columns, columnsOf}
 use Rattle.step.specs.Deciding.{storedAs}
 use Rattle.steps.specs.Arrays.{blank, Begun, Finished}
 use Rattle.step.specs.Deciding.{factOf, placeOf, ruleFound, Asked}
-use Rattle.step.proofs.Decides.{rule-in}
+use Rattle.step.proofs.Decides.{rule-placed, rule-in}
 use Rattle.steps.proofs.Stacked.{Loading, load-more}
 use Rattle.steps.proofs.Running.{Running, run-start}
 
@@ -51,15 +56,25 @@ module _ (d : ℕ) {steps firings given stored : ℕ} {r : CallResult} where
 pub waiting-is : {f x : Fact} → f ≡ x → _≡_ {A = Entry} (record { symbol = f .symbol; item = Waiting f }) (waiting x)
 waiting-is e = rw e refl
 
+-- ---- the mark
+
+-- a run so far, and its mark on a place of the table
+pub record WithMark (t : List ℕ) (m : Mark) (Run : Type 0) : Type 0 where
+  pub run : Run
+  pub marked : Marked t m
+
+pub unmarked : (t : List ℕ) {m : Mark} → m ≡ noMark → Marked t m
+unmarked t e = subst (Marked t) (sym e) (no-mark-yet t)
+
 -- ---- the steps
 
-module _ {t : List ℕ} {reading : Reading} {g : List ℕ} {limit : ℕ} {first rules heads symbols ids : List ℕ} {args : List ℤ}
-    (b : Begun t reading g limit first rules heads symbols ids args) where
+module _ {t : List ℕ} {rules : ℕ} {starts parts g : List ℕ} {limit : ℕ} {symbols ids : List ℕ} {args : List ℤ}
+    (b : Begun t rules starts parts g limit symbols ids args) where
   pub begun-table : GoodTable t
-  begun-table = good-table t (ap (λ (x : Reading). x .verdict) (sym (b .read)) ∙ b .goodTable)
+  begun-table = good-table t (b .countable .good)
 
-  pub begun-goal : GoodGoal (reading .symbols) g
-  begun-goal = good-goal t (reading .symbols) g (b .goodGoal)
+  pub begun-goal : GoodGoal (readOf t .symbols) g
+  begun-goal = good-goal t (readOf t .symbols) g (b .goodGoal)
 
   -- the i-th fact from the end lies in the goal
   pub fact-in : (i : ℕ) → i < length g / 18 → 18 * (length g / 18 - 1 - i) + 18 ≤ length g
@@ -90,12 +105,13 @@ module _ {t : List ℕ} {reading : Reading} {g : List ℕ} {limit : ℕ} {first 
   pub asks : {goal : List Fact} {es : List Entry} {d : ℕ} {c : Columns} {n : ℕ} {h : List (List ℕ)} {m given firings k : ℕ} {made : List ℤ}
       → Running t limit goal es d c n h m given firings k made → (d ≡ 0 → ⊥) → (found : Spot)
       → foundPlace found ≡ placeOf (tableOf t) (getD es (d - 1) blank .symbol) (getD es (d - 1) blank .item)
-      → {at : ℕ} → at ≡ ruleFound found
-      → Asked t (getD es (d - 1) blank) found (getD (reading .shapes) at noShape) d n m h made
-  asks r z found e {at} q = record {
-    goodTable = ap (λ (x : Reading). x .verdict) (sym (b .read)) ∙ b .goodTable;
+      → {at : ℕ} → at ≡ ruleFound found → {shape : RuleShape} → shape ≡ shapeAt starts parts at
+      → Asked t (getD es (d - 1) blank) found shape d n m h made
+  unfolding ruleFound
+  asks {es = es} {d = d} r z found e {at} q v = record {
+    goodTable = b .countable .good;
     placed = e;
-    is = ap (λ (x : Reading). getD (x .shapes) at noShape) (b .read) ∙ ap (λ (x : ℕ). getD (readOf t .shapes) x noShape) q;
+    is = λ p f. v ∙ ap (shapeAt starts parts) (q ∙ ap ruleFound f) ∙ b .countable .laid .each (p .rule .0) (its-rule p (sym (ap foundPlace f) ∙ e));
     deep = omega arith;
     deepFew = r .deep;
     fewStored = r .few;
@@ -103,6 +119,9 @@ module _ {t : List ℕ} {reading : Reading} {g : List ℕ} {limit : ℕ} {first 
     wholePast = r .pastLong;
     wholeMade = r .wholeMade;
   }
+    where
+      its-rule : (p : HeadPlace) → foundPlace (At p) ≡ placeOf (tableOf t) (getD es (d - 1) blank .symbol) (getD es (d - 1) blank .item) → p .rule .0 < rules
+      its-rule p w = omega (arith, b .countable .read, rule-placed begun-table (getD es (d - 1) blank .symbol) (getD es (d - 1) blank .item) p w)
 
   pub index-in : (s : Symbol) (x : Item) (found : Spot) → foundPlace found ≡ placeOf (tableOf t) s x → {at : ℕ} → at ≡ ruleFound found → at < 64
   index-in s x found e q = rule-in begun-table s x found e q

@@ -6,14 +6,13 @@ use lib.IntN.{ℤ, pos}
 use lib.ListN.{getD, length}
 use Rattle.model.specs.declared.Item.the-variants.{Waiting}
 use Rattle.model.specs.declared.Entry.{Entry}
-use Rattle.model.specs.declared.Reading.{Reading}
 use Rattle.model.specs.declared.Verdict.the-variants.{Good}
 use Rattle.model.specs.declared.CallResult.{CallResult}
 use Rattle.model.specs.Limits.{storeRoom, greatestLimit}
 use Rattle.model.specs.Reading.{readOf}
 use Rattle.model.specs.Goal.{goalVerdict}
 use Rattle.model.specs.Run.{Ended}
-use Rattle.occurrences.specs.Listing.{Listed}
+use Rattle.occurrences.specs.Counting.{Countable}
 use Rattle.store.specs.Views.{rowsFrom}
 
 -- ---- the stack
@@ -29,13 +28,11 @@ stackOf es (suc d) = getD es d blank ∷ stackOf es d
 
 -- ---- the steps of a run
 
--- what the steps ask: table and goal are good, the occurrences are listed, and the columns are whole
-pub record Begun (t : List ℕ) (reading : Reading) (g : List ℕ) (limit : ℕ) (first rules heads symbols ids : List ℕ) (args : List ℤ) : Type 0 where
-  pub read : reading ≡ readOf t
-  pub goodTable : reading .verdict ≡ Good
-  pub goodGoal : goalVerdict t (reading .symbols) g ≡ Good
+-- what the steps ask: table and goal are good, the rules are in their columns, and the columns of the store are whole
+pub record Begun (t : List ℕ) (rules : ℕ) (starts parts g : List ℕ) (limit : ℕ) (symbols ids : List ℕ) (args : List ℤ) : Type 0 where
+  pub countable : Countable t rules starts parts
+  pub goodGoal : goalVerdict t (readOf t .symbols) g ≡ Good
   pub legal : limit ≤ greatestLimit
-  pub listed : Listed t first rules heads
   pub wholeSymbols : length symbols ≡ storeRoom
   pub wholeIds : length ids ≡ storeRoom
   pub wholeArgs : length args ≡ 512

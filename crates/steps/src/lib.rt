@@ -2,7 +2,6 @@
 use model::CallResult;
 use model::Entry;
 use model::Goal;
-use model::Reading;
 use model::Rule;
 use model::Stack;
 use model::Store;
@@ -27,17 +26,16 @@ pub mod loading;
 // the caller can read the answer off them.
 pub fn take<'a>(
     table: &[u8],
-    reading: Reading,
+    rules: u8,
+    starts: &[u32; Table::RULES],
+    parts: &[u32; Table::RULES],
     goal: &[u8],
     limit: u32,
-    first: &[u16; Table::SYMBOLS + 1],
-    rules: &[u8; Table::PLACES],
-    heads: &[u8; Table::PLACES],
     symbols: &'a mut [u8; Store::CAPACITY],
     ids: &'a mut [u32; Store::CAPACITY],
     args: &'a mut [i32; 4 * Store::CAPACITY],
 ) -> CallResult
-    requires { ⌜ Begun (now table) reading (now goal) limit (now first) (now rules) (now heads) (now symbols) (now ids) (now args) ⌝ }
+    requires { ⌜ Begun (now table) rules (now starts) (now parts) (now goal) limit (now symbols) (now ids) (now args) ⌝ }
     ensures { λ r. ⌜ Finished (run (tableOf (now (table .entry))) limit (start (goalOf (now (goal .entry))))) r
         (now (symbols .exit)) (now (ids .exit)) (now (args .exit)) ⌝ }
 {
@@ -56,6 +54,7 @@ pub fn take<'a>(
     let mut given: u32 = 0;
     let mut firings: u32 = 0;
     let mut k: u32 = 0;
+    let mut mark = occurrences::no_mark();
     // What a firing has chosen and bound, and the arguments of its body.
     let mut chosen = [0u32; Rule::HEADS];
     let mut values = [0i32; Rule::VARIABLES];
@@ -69,9 +68,9 @@ pub fn take<'a>(
         k += 1;
         let top = depth - 1;
         let e = entries[top];
-        let found = deciding::place_of_entry(table, first, rules, heads, e);
-        let index = deciding::rule_found(found);
-        let shape = reading.shapes[index];
+        let found = deciding::place_of_entry(table, rules, starts, parts, mark, e);
+        mark = deciding::mark_of_entry(mark, e, found);
+        let shape = shapes::shape_at(starts, parts, deciding::rule_found(found));
         let decision = deciding::decide(
             table,
             e,

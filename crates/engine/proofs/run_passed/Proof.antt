@@ -2,25 +2,13 @@
 use mathlib.Core.Path.{refl}
 use native.Mathlib.Omega.{arith}
 use borrow.Author.Needs.{needs}
-use Rattle.engine.proofs.Calling.{done-output, other-output, answer-fits}
+use Rattle.engine.proofs.Calling.{steps-begin, done-output, other-output, answer-fits}
 use Rattle.engine.proofs.run_passed.Statement.{statement}
 use Rattle.engine.proofs.run_passed.Tie as tie
 
 -- the call's beginning: too far back for a search from an answer, so that it is looked for from behind the steps
 abbrev began : tie.After-take → tie.Start
 began ran = search needs
-
-no-starts-requires : tie.Need-no-starts-requires
-no-starts-requires c κs = search needs
-
-no-places-requires : tie.Need-no-places-requires
-no-places-requires c κs = search needs
-
-no-places-requires-2 : tie.Need-no-places-requires-2
-no-places-requires-2 c κs = search needs
-
-list-occurrences-requires : tie.Need-list-occurrences-requires
-list-occurrences-requires c κs = search needs
 
 no-symbols-requires : tie.Need-no-symbols-requires
 no-symbols-requires c κs = search needs
@@ -32,7 +20,7 @@ no-args-requires : tie.Need-no-args-requires
 no-args-requires c κs = search needs
 
 take-requires : tie.Need-take-requires
-take-requires c κs = search needs
+take-requires c κs = search (steps-begin, needs)
 
 cast-n : tie.Need-cast-n
 cast-n c = search needs
@@ -61,10 +49,6 @@ pub run-passed-spec : {M : Type 1} → statement M
 run-passed-spec =
     tie.close
     (tie.spec
-    no-starts-requires
-    no-places-requires
-    no-places-requires-2
-    list-occurrences-requires
     no-symbols-requires
     no-ids-requires
     no-args-requires
