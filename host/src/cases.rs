@@ -2,6 +2,7 @@
 //! same case.
 
 pub mod corners;
+pub mod counting;
 pub mod damage;
 pub mod edges;
 pub mod finding;
@@ -79,7 +80,8 @@ pub fn any_case(seed: u64) -> Case {
         0..=45 => check_case(&mut random),
         46..=51 => edge_case(&mut random),
         52..=70 => refused_run_case(&mut random),
-        71..=116 => run_case(&mut random),
+        71..=108 => run_case(&mut random),
+        109..=116 => counting_case(&mut random),
         117..=142 => weigh_case(&mut random),
         143..=162 => finding::case(&mut random),
         163..=198 => scene_case(&mut random),
@@ -90,12 +92,23 @@ pub fn any_case(seed: u64) -> Case {
 /// A run that is made to reach what random tables seldom reach: the last place of a room, rules
 /// with many heads that fire, goals of 64 facts, divisions of every sort.
 pub fn scene_case(random: &mut Random) -> Case {
-    let mut case = match random.below(36) {
+    let case = match random.below(36) {
         0..=4 => rooms::case(random),
         5..=18 => joins::case(random),
         19..=27 => readings::case(random),
         _ => quotients::case(random),
     };
+    with_limit_near(random, case)
+}
+
+/// A run that comes to occurrences in ways that random tables seldom take.
+pub fn counting_case(random: &mut Random) -> Case {
+    let case = counting::case(random);
+    with_limit_near(random, case)
+}
+
+/// The run with a step limit around its own length.
+fn with_limit_near(random: &mut Random, mut case: Case) -> Case {
     let outcome = plain_outcome(&case);
     case.limit = limit_near(random, case.limit, outcome);
     case

@@ -16,6 +16,7 @@
 //! - [`bench`]: what is measured, and how engines are timed against each other.
 //! - [`cases`]: random cases, good, damaged and near every limit.
 //! - [`divisions`]: the quotients and remainders that a run works out, and the edges they reach.
+//! - [`ways`]: the ways in which a run comes to the places of occurrences, and the edges it reaches.
 //! - [`positions`]: the positions of the grammar of texts, and at which of them a text is refused.
 //! - [`verdict`]: everything that a call gives back for a case, and the reference's verdict.
 //! - [`stored`]: the form of stored cases, and the line that a program has to print for each.
@@ -40,4 +41,5 @@ pub mod stored;
 pub mod swi;
 pub mod tools;
 pub mod verdict;
+pub mod ways;
 pub mod words;

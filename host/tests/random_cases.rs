@@ -8,7 +8,7 @@ use nadhirukh_host::outcome::{table_numbers, PAST_NUMBERS};
 use nadhirukh_host::reference::run::{admit, run_read};
 use nadhirukh_host::reference::step::{Pruning, Step};
 use nadhirukh_host::verdict::{self, Verdict, FILL};
-use nadhirukh_host::{divisions, format, plain, reference};
+use nadhirukh_host::{divisions, format, plain, reference, ways};
 
 const CASES: u64 = 20_000;
 
@@ -145,19 +145,26 @@ fn random_runs_reach_the_end_of_every_room_and_fire_rules_of_every_shape() {
     assert!(seen.values().all(|count| *count >= 20), "{:?}", seen);
 }
 
-#[test]
-fn random_runs_divide_at_every_edge() {
+/// Random runs reach each of these, often enough, and nothing else.
+fn all_are_reached(all: BTreeSet<String>, reached: fn(&Case) -> BTreeSet<String>) {
     let mut seen = BTreeMap::new();
     for seed in 0..CASES {
-        for edge in divisions::reached(&any_case(seed)) {
-            *seen.entry(edge).or_insert(0) += 1;
+        for what in reached(&any_case(seed)) {
+            *seen.entry(what).or_insert(0) += 1;
         }
     }
-    assert_eq!(
-        seen.keys().cloned().collect::<BTreeSet<_>>(),
-        divisions::edges()
-    );
+    assert_eq!(seen.keys().cloned().collect::<BTreeSet<_>>(), all);
     assert!(seen.values().all(|count| *count >= 20), "{:?}", seen);
+}
+
+#[test]
+fn random_runs_divide_at_every_edge() {
+    all_are_reached(divisions::edges(), divisions::reached);
+}
+
+#[test]
+fn random_runs_count_heads_in_every_way_and_at_every_edge() {
+    all_are_reached(ways::all(), ways::reached);
 }
 
 #[test]

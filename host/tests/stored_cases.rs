@@ -7,7 +7,7 @@ use std::path::Path;
 use nadhirukh_host::cases::{any_case, texts, Call, Case};
 use nadhirukh_host::outcome::{text_printings, text_readings};
 use nadhirukh_host::positions::Positions;
-use nadhirukh_host::{divisions, stored, verdict};
+use nadhirukh_host::{divisions, stored, verdict, ways};
 
 fn stored_cases() -> Vec<Case> {
     let host = Path::new(env!("CARGO_MANIFEST_DIR"));
@@ -30,6 +30,13 @@ fn a_stored_case_is_read_as_it_was_written() {
 fn the_stored_cases_divide_at_every_edge() {
     let reached: BTreeSet<String> = stored_cases().iter().flat_map(divisions::reached).collect();
     assert_eq!(reached, divisions::edges());
+}
+
+// The ways that no run can take are named in src/ways.rs, each with its reason.
+#[test]
+fn the_stored_cases_count_heads_in_every_way_and_at_every_edge() {
+    let reached: BTreeSet<String> = stored_cases().iter().flat_map(ways::reached).collect();
+    assert_eq!(reached, ways::all());
 }
 
 #[test]

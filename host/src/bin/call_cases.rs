@@ -5,14 +5,15 @@
 //!
 //! [`stored`] says how they look.
 
+use std::collections::BTreeSet;
 use std::env;
 use std::path::Path;
 use std::process::ExitCode;
 
 use nadhirukh_host::cases::random::Random;
-use nadhirukh_host::cases::{self, edges, finding, quotients, texts, Case};
+use nadhirukh_host::cases::{self, counting, edges, finding, quotients, texts, Case};
 use nadhirukh_host::tools::{self, Trouble};
-use nadhirukh_host::{divisions, stored, verdict};
+use nadhirukh_host::{divisions, stored, verdict, ways};
 
 /// A group's name, and what gives its cases.
 type Group = (&'static str, fn() -> Vec<Case>);
@@ -163,29 +164,45 @@ fn check_cases() -> Vec<Case> {
 }
 
 /// Random runs, then a few of the longest table, then document 01's own run without a star, then
-/// runs that divide.
+/// runs that divide, then runs that count heads.
 fn run_cases() -> Vec<Case> {
     let mut found = pick(4, RUN, cases::run_case);
     let mut random = Random::new(SEED);
     found.extend((0..3).map(|_| cases::longest_case(&mut random)));
     found.extend([42, 43].map(cases::two_for_one_case));
-    found.extend(dividing_cases(7));
+    let edges = divisions::edges();
+    found.extend(reaching(7, quotients::case, divisions::reached, edges));
+    found.extend(counting_cases(10));
     found
 }
 
-/// Takes runs that divide at an edge which none before them reached, until all are reached.
-fn dividing_cases(row: u64) -> Vec<Case> {
-    let mut left = divisions::edges();
+/// Runs at the edges of counting heads, ones that ask for an occurrence again, and ones of few rules
+/// that count in every way.
+fn counting_cases(row: u64) -> Vec<Case> {
+    let mut found = counting::edge_cases().to_vec();
+    found.extend(counting::asking_again());
+    let ways = ways::ways();
+    found.extend(reaching(row, counting::few_rules, ways::reached, ways));
+    found
+}
+
+/// Takes cases that reach one of these which none before them reached, until all are reached.
+fn reaching(
+    row: u64,
+    generate: fn(&mut Random) -> Case,
+    reached: fn(&Case) -> BTreeSet<String>,
+    mut left: BTreeSet<String>,
+) -> Vec<Case> {
     let mut found = Vec::new();
     for at in 0.. {
-        let case = quotients::case(&mut random(row, at));
-        let reached = divisions::reached(&case);
-        if !left.is_disjoint(&reached) {
-            left.retain(|edge| !reached.contains(edge));
-            found.push(case);
-        }
         if left.is_empty() {
             break;
+        }
+        let case = generate(&mut random(row, at));
+        let reached = reached(&case);
+        if !left.is_disjoint(&reached) {
+            left.retain(|one| !reached.contains(one));
+            found.push(case);
         }
     }
     found
