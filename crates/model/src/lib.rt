@@ -225,9 +225,6 @@ impl Table {
 
     pub const RULES: usize = 64;
 
-    // the head places of all rules
-    pub const PLACES: usize = Table::RULES * Rule::HEADS;
-
     pub const LONGEST: usize = 23681;
 }
 
