@@ -7,13 +7,13 @@
 use std::collections::BTreeSet;
 use std::slice;
 
-use crate::cases::{Call, Case};
+use crate::cases::Case;
 use crate::reference::instances::{instances, Binding, Truth};
 use crate::reference::numbers::Operation;
-use crate::reference::run::admit;
 use crate::reference::state::{Entry, State};
-use crate::reference::step::{Machine, Pruning, Step};
+use crate::reference::step::Machine;
 use crate::reference::table::{Expression, Guard, Item, Rule, Slot};
+use crate::watched::watch;
 
 /// Where an expression stands.
 #[derive(Clone, Copy, Debug, PartialEq, Eq)]
@@ -126,26 +126,10 @@ pub fn reached(case: &Case) -> BTreeSet<String> {
 
 /// The divisions of a run, those that count; none where nothing is run.
 fn divisions(case: &Case) -> Vec<Division> {
-    let admitted = admit(&case.table, &case.goal, case.limit, case.answer_len);
-    let (table, goal) = match admitted {
-        Ok(read) if case.call == Call::Run => read,
-        _ => return Vec::new(),
-    };
-    let machine = Machine::new(&table, Pruning::Prune);
-    let mut state = State::start(&goal);
     let mut found = Vec::new();
-    for _ in 0..case.limit {
-        let top = match state.stack.last() {
-            Some(top) => *top,
-            None => break,
-        };
-        found.extend(tried(&machine, &state, top));
-        match machine.decide(&state, top) {
-            Ok(Step::Fail) | Err(_) => break,
-            Ok(step) => machine.apply(&mut state, &step),
-        }
-    }
-    let answered = state.stack.is_empty();
+    let answered = watch(case, |machine, state, top| {
+        found.extend(tried(machine, state, top));
+    });
     let counts = |one: &Division| answered || one.part == Part::Guard || one.value().is_none();
     found.into_iter().filter(counts).collect()
 }

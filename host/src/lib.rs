@@ -15,6 +15,7 @@
 //! - [`swi`]: a table and goals as a program for SWI-Prolog's CHR library.
 //! - [`bench`]: what is measured, and how engines are timed against each other.
 //! - [`cases`]: random cases, good, damaged and near every limit.
+//! - [`watched`]: the run of a case on the second engine, watched entry by entry.
 //! - [`divisions`]: the quotients and remainders that a run works out, and the edges they reach.
 //! - [`ways`]: the ways in which a run comes to the places of occurrences, and the edges it reaches.
 //! - [`positions`]: the positions of the grammar of texts, and at which of them a text is refused.
@@ -41,5 +42,6 @@ pub mod stored;
 pub mod swi;
 pub mod tools;
 pub mod verdict;
+pub mod watched;
 pub mod ways;
 pub mod words;

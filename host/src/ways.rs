@@ -8,14 +8,14 @@
 use std::cmp::Ordering;
 use std::collections::BTreeSet;
 
-use crate::cases::{Call, Case};
+use crate::cases::Case;
 use crate::format::{MAX_HEADS, MAX_RULES};
 use crate::names::{Occurrence, Symbol};
 use crate::reference::occurrences::HeadPlace;
-use crate::reference::run::admit;
-use crate::reference::state::{Entry, State};
-use crate::reference::step::{Machine, Pruning, Step};
+use crate::reference::state::Entry;
+use crate::reference::step::Machine;
 use crate::reference::table::{Head, Table};
+use crate::watched::watch;
 
 /// The occurrence found last, and its place.
 #[derive(Clone, Copy, Debug)]
@@ -146,29 +146,14 @@ fn way(from: &str, which: &str, found: &str) -> String {
 
 /// The ways that a case takes, and the edges that it reaches; none where nothing is run.
 pub fn reached(case: &Case) -> BTreeSet<String> {
-    let admitted = admit(&case.table, &case.goal, case.limit, case.answer_len);
-    let (table, goal) = match admitted {
-        Ok(read) if case.call == Call::Run => read,
-        _ => return BTreeSet::new(),
-    };
-    let machine = Machine::new(&table, Pruning::Prune);
-    let mut state = State::start(&goal);
     let mut mark = None;
     let mut found = BTreeSet::new();
-    for _ in 0..case.limit {
-        let top = match state.stack.last() {
-            Some(top) => *top,
-            None => break,
-        };
-        if let Some(ask) = Ask::by(&machine, mark, top) {
+    watch(case, |machine, _, top| {
+        if let Some(ask) = Ask::by(machine, mark, top) {
             found.extend(ask.words());
             mark = ask.mark_behind();
         }
-        match machine.decide(&state, top) {
-            Ok(Step::Fail) | Err(_) => break,
-            Ok(step) => machine.apply(&mut state, &step),
-        }
-    }
+    });
     found
 }
 

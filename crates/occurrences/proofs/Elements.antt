@@ -1,11 +1,9 @@
--- What `getElem?` finds in a list made of two, behind the first elements of a list, and in one whose elements all have a property.
+-- What `getElem?` finds in a list made of two, and behind the first elements of a list.
 use Prim.Native.Nat.{ℕ, zero, suc, _+_, _-_, _<_, _≤_}
-use mathlib.Core.Path.{_≡_, refl, sym, ap, subst, _∙_}
-use mathlib.Core.Option.{some}
+use mathlib.Core.Path.{_≡_, refl, sym, ap, _∙_}
 use mathlib.Core.List.{List, [], _∷_, _++_}
 use native.Mathlib.Omega.{arith}
 use lib.ListN.{length, drop, getElem?}
-use Rattle.model.proofs.Every.{every}
 
 module _ {A : Type 0} where
   pub elem-first : (l m : List A) (i : ℕ) → i < length l → getElem? (l ++ m) i ≡ getElem? l i
@@ -31,8 +29,3 @@ module _ {A : Type 0} where
   drop-second (x ∷ l) m (suc i) h =
       let e : suc i - suc (length l) ≡ i - length l = omega arith in
       drop-second l m i (omega arith) ∙ ap (λ (x : ℕ). drop x m) (sym e)
-
-  pub elem-every : (P : A → Type 0) (l : List A) (i : ℕ) (x : A) → getElem? l i ≡ some x → every P l → P x
-  elem-every P [] i x e u = absurd (let z : _≡_ {A = ℕ} 0 1 = cc in omega arith)
-  elem-every P (y ∷ l) zero x e u = let q : y ≡ x = cc in subst P q (u .0)
-  elem-every P (y ∷ l) (suc i) x e u = elem-every P l i x e (u .1)

@@ -1,12 +1,12 @@
--- What the tests of a mark say, and what a mark is after an answer.
+-- What the test of a mark says, that a place is a head of the table, and what a mark is after an answer.
 use Prim.Native.Nat.{ℕ, suc, _+_, _-_, _<_}
-use mathlib.Core.Path.{_≡_, refl, sym, ap, _∙_}
+use mathlib.Core.Path.{_≡_, refl, sym, ap, subst, _∙_}
 use mathlib.Core.Bool.{Bool, true, false, cond}
 use mathlib.Core.Option.{Option, some}
 use mathlib.Core.List.{List}
 use native.Mathlib.Omega.{arith}
 use lib.Dec.{eqb, ltb}
-use lib.ListN.{getElem?}
+use lib.ListN.{length, getElem?}
 use borrow.Author.Tests.{eq-eqb, ne-eqb, eqb-true, ltb-true}
 use Rattle.model.specs.declared.Symbol.{Symbol}
 use Rattle.model.specs.declared.Occurrence.{Occurrence}
@@ -14,20 +14,22 @@ use Rattle.model.specs.declared.HeadPlace.{HeadPlace}
 use Rattle.model.specs.declared.Verdict.the-variants.{Good}
 use Rattle.model.specs.Reading.{readOf}
 use Rattle.model.specs.Table.{tableOf, places}
+use Rattle.model.proofs.Lists.{OptionIs, index-is}
 use Rattle.model.proofs.Good.{GoodTable, good-table}
 use Rattle.model.proofs.Decoded.{PlaceShape, places-shape}
 use Rattle.occurrences.specs.declared.Spot.{Spot}
 use Rattle.occurrences.specs.declared.Spot.the-variants.{At, Nothing}
 use Rattle.occurrences.specs.declared.Mark.{Mark}
 use Rattle.occurrences.specs.Counting.{foundPlace, placesLeft, noMark, markOf, isOn, Standing, Marked}
-use Rattle.occurrences.proofs.Elements.{elem-drop, elem-every}
+use Rattle.occurrences.proofs.Elements.{elem-drop}
 use Rattle.occurrences.proofs.Behind.{behind-place}
 
 -- the place of an occurrence is a head of the table
 pub placed-stands : (t : List ℕ) → GoodTable t → (s : Symbol) (i : ℕ) (p : HeadPlace) → getElem? (places (tableOf t) s) i ≡ some p → Standing t p
 placed-stands t g s i p e =
-    let w = elem-every (PlaceShape t) (places (tableOf t) s) i p e (places-shape t g s) in
-    record { ruleIn = w .ruleIn; headIn = w .headIn }
+    let l = places (tableOf t) s in
+    let w = subst (OptionIs (λ (x : HeadPlace). PlaceShape t x × (i < length l))) e (index-is (PlaceShape t) l i (places-shape t g s)) in
+    record { ruleIn = w .0 .ruleIn; headIn = w .0 .headIn }
 
 -- ---- what a mark tells
 

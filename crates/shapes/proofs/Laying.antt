@@ -1,6 +1,6 @@
 -- What writing a rule into the columns does: its shape stands there, and those of the rules before it stay.
 use Prim.Native.Nat.{ℕ, _+_, _*_, _/_, _%_, _<_, _≤_}
-use mathlib.Core.Path.{_≡_, refl, sym, ap, _∙_}
+use mathlib.Core.Path.{_≡_, refl, ap, _∙_}
 use mathlib.Core.Logic.{_⊎_, inl, inr}
 use mathlib.Core.Bool.{Bool, true, false}
 use mathlib.Core.List.{List}
@@ -8,8 +8,6 @@ use native.Mathlib.Omega.{arith}
 use lib.Dec.{ltb}
 use lib.ListN.{length, getD, set, length-set}
 use lib.Seq.{getD-set-same, getD-set-other}
-use mir.Syntax.{w32}
-use mir.Val.{Fits}
 use borrow.Author.Tests.{ltb-true, ltb-false}
 use Rattle.model.specs.declared.Reading.{Reading}
 use Rattle.model.specs.declared.RuleShape.{RuleShape}
@@ -99,22 +97,18 @@ laying-begins few narrow w = record {
   narrow = narrow;
 }
 
-module _ {reading : Reading} {starts parts : List ℕ} {n : ℕ} (l : Laying reading starts parts n) where
-  pub laying-ends : reading .rules ≤ n → Laid (reading .rules) (reading .shapes) starts parts
-  laying-ends h = let e : reading .rules ≡ n = omega (arith, l .few) in rw e (l .laid)
+module _ {reading : Reading} {starts parts : List ℕ} {n : ℕ} (l : Laying reading starts parts n) (h : n < reading .rules) where
+  pub rule-among : n < mostRules
+  rule-among = omega (arith, l .room)
 
-  module _ (h : n < reading .rules) where
-    pub rule-among : n < mostRules
-    rule-among = omega (arith, l .room)
+  pub rule-narrow : Narrow (getD (reading .shapes) n noShape)
+  rule-narrow = l .narrow n h
 
-    pub rule-narrow : Narrow (getD (reading .shapes) n noShape)
-    rule-narrow = l .narrow n h
-
-    pub rule-written : {starts′ parts′ : List ℕ} → Put n (getD (reading .shapes) n noShape) starts parts starts′ parts′
-        → Laying reading starts′ parts′ (n + 1)
-    rule-written e = rw (e .start, e .counts) (record {
-      laid = rule-laid (l .laid) rule-among rule-narrow;
-      few = omega arith;
-      room = l .room;
-      narrow = l .narrow;
-    })
+  pub rule-written : {starts′ parts′ : List ℕ} → Put n (getD (reading .shapes) n noShape) starts parts starts′ parts′
+      → Laying reading starts′ parts′ (n + 1)
+  rule-written e = rw (e .start, e .counts) (record {
+    laid = rule-laid (l .laid) rule-among rule-narrow;
+    few = omega arith;
+    room = l .room;
+    narrow = l .narrow;
+  })

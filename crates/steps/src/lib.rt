@@ -22,8 +22,8 @@ ghost use Rattle.steps.specs.Arrays.{Begun, Finished};
 pub mod ending;
 pub mod loading;
 
-// Takes the steps of a run: what the top entry comes to is decided apart, and a turn writes it. The columns are the store, lent so that
-// the caller can read the answer off them.
+// Takes the steps of a run: what the top entry comes to is decided apart, and a turn writes it. The first two columns are the index of rules,
+// the others the store, lent so that the caller can read the answer off them.
 pub fn take<'a>(
     table: &[u8],
     rules: u8,
