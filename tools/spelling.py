@@ -93,10 +93,10 @@ def main():
         with open(path, encoding="utf-8") as f:
             now = f.read()
         words = set(NAME.findall(was))
-        imported = set()
+        here, imported = set(NAME.findall(now)), set()
         for m in re.finditer(r"^(?:ghost )?use (?:Rattle\.std|borrow|logic|mir|lib|native|mathlib|Prim)\.[^{;\n]*\{([^}]*)\}", now, re.M):
             imported |= {w.split(" as ")[-1].strip() for w in m.group(1).split(",")}
-        dashed = {flat: snake(n) for flat, n in dashes.items() if n in words and flat not in imported}
+        dashed = {flat: snake(n) for flat, n in dashes.items() if n in words and n not in here and flat not in imported}
         new = spell(now, camel, dashed, path.endswith(".rt"))
         if path.endswith(".antt"):
             free = {m.group(0) for m in NAME.finditer(was) if m.string[m.start() - 1 : m.start()] not in (".", "·")}

@@ -21,7 +21,7 @@ use Rattle.assembly.specs.declared.Phase.TheVariants.{Wants, Term as TermRead, O
 use Rattle.assembly.specs.declared.Side.TheVariants.{Argument}
 use Rattle.assembly.specs.Pieces.{piece}
 use Rattle.assembly.specs.Moves as laying
-use Rattle.assembly.specs.Moves.{here, moves_of, place-of}
+use Rattle.assembly.specs.Moves.{here, moves_of, place_of}
 use Rattle.assembled.specs.Holds.{behind, guards_front, items_front, side_front, wants_bytes, record_front, front_of, bytes_of, phase_of, side_of, FewOf, Few}
 use Rattle.assembled.proofs.Putting.{Alike, alike-same, alike-back, alike-next, alike-more, alike-front, put-first, put-second}
 use Rattle.assembled.proofs.Putting.{put_bytes, put_all, laid-end}
@@ -29,7 +29,7 @@ use Rattle.assembled.proofs.Links.{follows, stays, Linked, done, also, also-only
 use Rattle.assembled.proofs.Bodies.{items-at, item-ends, argument-at}
 
 -- where an expression begins
-place-of : (s : Side) → place-of (length (record_front s)) (side_of s) ≡ length (side_front s)
+place-of : (s : Side) → place_of (length (record_front s)) (side_of s) ≡ length (side_front s)
 place-of (left_of g) = sym (length-append (guards_front g) (5 ∷ 0 ∷ []))
 place-of (right_of g l c) = sym (length-append (guards_front g) (5 ∷ comparator_number c ∷ formula_bytes l) ∙ omega (arith, formula-long l))
 place-of (argument_of g is k es) = argument-at g is k es
@@ -89,8 +89,8 @@ slot-read p x a e h =
     (alike-front x (alike-more (0 ∷ term_bytes a) 5)))
 
 first-read : (s : Side) (a : Term)
-    → Alike (put_bytes (place-of (length (record_front s)) (side_of s) + 1) (term_bytes a) (side_front s)) (side_front s ++ formula_bytes (alone a))
-first-read s a = slot-read (place-of (length (record_front s)) (side_of s) + 1) (side_front s) a (omega (arith, place-of s)) (alike-more (side_front s) 1)
+    → Alike (put_bytes (place_of (length (record_front s)) (side_of s) + 1) (term_bytes a) (side_front s)) (side_front s ++ formula_bytes (alone a))
+first-read s a = slot-read (place_of (length (record_front s)) (side_of s) + 1) (side_front s) a (omega (arith, place-of s)) (alike-more (side_front s) 1)
 
 guard-begins : (g : Guarded) (a : Term)
     → Alike (put_all (piece (length (guards_front g)) (5 ∷ []) ∷ piece (length (guards_front g) + 3) (term_bytes a) ∷ []) (guards_front g))
@@ -116,12 +116,12 @@ wants-linked (right_of g l c) few = also (λ a. follows (term (right_of g l c) a
 wants-linked (argument_of g is k es) few = also (λ a. follows (term (argument_of g is k es) a) refl (first-read (argument_of g is k es) a) few) done
 
 operates : (s : Side) (o : Operation) (a : Term)
-    → Alike (put_bytes (place-of (length (record_front s)) (side_of s)) (operation_number o ∷ []) (side_front s ++ formula_bytes (alone a)))
+    → Alike (put_bytes (place_of (length (record_front s)) (side_of s)) (operation_number o ∷ []) (side_front s ++ formula_bytes (alone a)))
     (side_front s ++ (operation_number o ∷ term_bytes a))
 unfolding put_bytes formula_bytes
 operates s o a =
     alike-next
-    (alike-same (put-first (side_front s) (term_bytes a ++ replicate 5 0) (place-of (length (record_front s)) (side_of s)) 0 (operation_number o) (place-of s)))
+    (alike-same (put-first (side_front s) (term_bytes a ++ replicate 5 0) (place_of (length (record_front s)) (side_of s)) 0 (operation_number o) (place-of s)))
     (alike-front (side_front s) (alike-back (alike-more (operation_number o ∷ term_bytes a) 5)))
 
 pub term-linked : (s : Side) (a : Term) → FewOf s
@@ -130,12 +130,12 @@ unfolding front_of bytes_of phase_of Few edges_of moves_of put_all
 term-linked s a few = also (λ o. follows (operated s o a) refl (operates s o a) few) (behind-formula s (alone a) few)
 
 applies : (s : Side) (o : Operation) (a b : Term)
-    → Alike (put_bytes (place-of (length (record_front s)) (side_of s) + 6) (term_bytes b) (side_front s ++ (operation_number o ∷ term_bytes a)))
+    → Alike (put_bytes (place_of (length (record_front s)) (side_of s) + 6) (term_bytes b) (side_front s ++ (operation_number o ∷ term_bytes a)))
     (side_front s ++ formula_bytes (applied o a b))
 unfolding formula_bytes
 applies s o a b =
     alike-next
-    (laid-end (place-of (length (record_front s)) (side_of s) + 6) (term_bytes b)
+    (laid-end (place_of (length (record_front s)) (side_of s) + 6) (term_bytes b)
     (sym (length-append (side_front s) (operation_number o ∷ term_bytes a) ∙ omega (arith, place-of s, term-long a)))
     (alike-same refl))
     (alike-same (append_assoc (side_front s) (operation_number o ∷ term_bytes a) (term_bytes b)))

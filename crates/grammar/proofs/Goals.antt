@@ -21,7 +21,7 @@ use Rattle.model.specs.declared.Verdict.TheVariants.{Good, Refused}
 use Rattle.model.specs.Fields.{arity_at}
 use Rattle.model.specs.Reading.{read_of}
 use Rattle.model.specs.Matching.{arguments}
-use Rattle.model.specs.Table.{symbol-at}
+use Rattle.model.specs.Table.{symbol_at}
 use Rattle.model.specs.Goal.{fact_at, facts_from, later_bad, later_places_bad, goal_fact_bad, facts_verdict, goal_verdict, goal_of}
 use Rattle.model.proofs.Every.{every, every-take}
 use Rattle.model.proofs.Ranges.{AreBytes}
@@ -117,7 +117,7 @@ fact-arguments g p =
     let c : p + 10 + 4 ≡ p + 14 = omega arith in
     rw (a, b, c)
 
-fact-symbol : (g : List ℕ) (p : ℕ) → (fact_at g p).symbol ≡ symbol-at g (p + 1)
+fact-symbol : (g : List ℕ) (p : ℕ) → (fact_at g p).symbol ≡ symbol_at g (p + 1)
 unfolding fact_at
 fact-symbol g p = refl
 

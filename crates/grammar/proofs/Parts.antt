@@ -15,7 +15,7 @@ use Rattle.wire.specs.Laws.{signed-fits}
 use Rattle.model.specs.declared.Slot.{Slot}
 use Rattle.model.specs.declared.Slot.TheVariants.{Unused, Constant, Variable, Bad}
 use Rattle.model.specs.declared.Expression.{Expression}
-use Rattle.model.specs.Slots.{slot-at, expression_at}
+use Rattle.model.specs.Slots.{slot_at, expression_at}
 use Rattle.model.specs.Fields.{place_bad, arity_at, places_bad, expression_bad, arguments_bad, head_bad, guard_bad, body_fact_bad}
 use Rattle.model.specs.Variables.{is_variable, head_has, in_heads, strange_slot, strange_expression, strange_guard, strange_fact}
 use Rattle.model.specs.Table.{Head, Guard, body_fact, body_fail, symbol_at, head_at, guard_at, body_fact_at, is_fact, item_at, heads_from, guards_from}
@@ -39,8 +39,8 @@ use Rattle.grammar.proofs.Tests.{any_of}
 -- ---- what slots and expressions from bytes hold
 
 module _ (t : List ℕ) (u : AreBytes t) where
-  pub slot-held : (p : ℕ) → SlotHeld (slot-at t p)
-  slot-held p = go (slot-at t p) (slot-at t p (slot-at t p) refl)
+  pub slot-held : (p : ℕ) → SlotHeld (slot_at t p)
+  slot-held p = go (slot_at t p) (slot-at t p (slot_at t p) refl)
     where
       go : (s : Slot) → SlotTells (get_or t p 0) (u32_at t (p + 1)) s → SlotHeld s
       go Unused q = tt
@@ -120,7 +120,7 @@ guards-rows t p (suc n) = ap (λ (l : List Guard). guard_at t p ∷ l) (guards-r
 -- ---- heads
 
 abbrev slots_at : List ℕ → ℕ → List Slot
-slots_at t p = rows_at (slot-at t) 5 p 4
+slots_at t p = rows_at (slot_at t) 5 p 4
 
 -- four slots behind the symbol
 head-slots : (t : List ℕ) (p : ℕ) → head_at t p ≡ record { symbol = symbol_at t (p + 1); slots = slots_at t (p + 2) }
@@ -143,7 +143,7 @@ head-decodes t p kind h g s =
     let named : get_or t (p + 1) 0 ≡ h.symbol = same-first t (p + 1) h.symbol (places_bytes term_bytes 5 4 h.terms) rest in
     let placed : Same t (p + 2) (places_bytes term_bytes 5 4 h.terms) =
     same-at t (p + 1 + 1) (p + 2) _ e (same-rest t (p + 1) h.symbol (places_bytes term_bytes 5 4 h.terms) rest) in
-    let slots = places-decode term_bytes 5 slot_of Unused t (slot-at t) term-long TermGood (term-decodes t) (unused-decodes t) (p + 2) 4 h.terms g placed in
+    let slots = places-decode term_bytes 5 slot_of Unused t (slot_at t) term-long TermGood (term-decodes t) (unused-decodes t) (p + 2) 4 h.terms g placed in
     head-slots t p ∙ (λ i. record { symbol = record { 0 = named i }; slots = slots i })
 
 pub head-encodes : (t : List ℕ) → AreBytes t → (p kind : ℕ) (h : HeadTree) → get_or t p 0 ≡ kind → head_at t p ≡ laid_head h → Same t p (head_bytes kind h)
@@ -151,7 +151,7 @@ unfolding head_bytes laid_head
 head-encodes t u p kind h k e =
     let q = sym (head-slots t p) ∙ e in
     let placed : Same t (p + 2) (places_bytes term_bytes 5 4 h.terms) =
-    places-encode term_bytes 5 slot_of Unused t (slot-at t) term-long (term-encodes t u) (unused-encodes t) (p + 2) 4 h.terms (ap (λ (x : Head). x.slots) q) in
+    places-encode term_bytes 5 slot_of Unused t (slot_at t) term-long (term-encodes t u) (unused-encodes t) (p + 2) 4 h.terms (ap (λ (x : Head). x.slots) q) in
     let d : p + 2 ≡ p + 1 + 1 = omega arith in
     same-more t p kind _ k (same-more t (p + 1) h.symbol _ (ap (λ (x : Head). x.symbol.0) q) (same-at t (p + 2) (p + 1 + 1) _ d placed))
 
@@ -164,14 +164,14 @@ head-test t p symbols =
     let b : p + 2 + 10 + 5 ≡ p + 2 + 15 = omega arith in
     rw (head-slots t p, a, b)
     (ap (λ (x : Bool). leb symbols (get_or t (p + 1) 0) || x)
-    (four-used place_bad (arity_at t (get_or t (p + 1) 0)) (slot-at t (p + 2)) (slot-at t (p + 2 + 5)) (slot-at t (p + 2 + 10)) (slot-at t (p + 2 + 15))))
+    (four-used place_bad (arity_at t (get_or t (p + 1) 0)) (slot_at t (p + 2)) (slot_at t (p + 2 + 5)) (slot_at t (p + 2 + 10)) (slot_at t (p + 2 + 15))))
 
 -- ---- whether a variable stands in some heads
 
 in-heads : (t : List ℕ) (p n v : ℕ) → in_heads t p n v ≡ heads_have v (heads_from t p n)
 unfolding in_heads head_has heads_from head_at
 in-heads t p zero v = refl
-in-heads t p (suc n) v = rw (in-heads t (p + 22) n v, or-none (is_variable (slot-at t (p + 17)) v))
+in-heads t p (suc n) v = rw (in-heads t (p + 22) n v, or-none (is_variable (slot_at t (p + 17)) v))
 
 -- whether an expression has a variable that none of the heads of the rule at `start` has
 abbrev pub expression_strange : List ℕ → ℕ → ℕ → Expression → Bool

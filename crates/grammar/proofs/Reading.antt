@@ -16,7 +16,7 @@ use Rattle.model.specs.declared.Scan.{Scan}
 use Rattle.model.specs.declared.RecordStep.TheVariants.{Next, Done}
 use Rattle.model.specs.declared.Reading.{Reading}
 use Rattle.model.specs.declared.Verdict.TheVariants.{Good}
-use Rattle.model.specs.Records.{kind-of, size_of, earliest_of, latest_of, out_of_order, headless, too_many}
+use Rattle.model.specs.Records.{kind_of, size_of, earliest_of, latest_of, out_of_order, headless, too_many}
 use Rattle.model.specs.Fields.{arity_at, head_bad, bad_field}
 use Rattle.model.specs.Variables.{strange, strange_guard, strange_fact}
 use Rattle.model.specs.Reading.{reading, behind, fields_of, ordered_of, tested_of, record_of, noted, ended, go_on, read_from}
@@ -71,7 +71,7 @@ pub record Reads (t : List ℕ) (s : Scan) (shapes : List RuleShape) (r : Readin
 
 -- the tests that a record of kind k passes
 pub record Passes (t : List ℕ) (s : Scan) (k : Kind) : Type 0 where
-  pub kind : kind-of (get_or t s.at 0) ≡ k
+  pub kind : kind_of (get_or t s.at 0) ≡ k
   pub some : 1 ≤ size_of k
   pub lies : s.at + size_of k ≤ length t
   pub early : earliest_of k ≤ s.stage
@@ -118,15 +118,15 @@ noted-again shapes s k x e = noted-first (set shapes k x) s k e ∙ set-set shap
 -- ---- symbols
 
 -- the kind of a record that begins with its byte
-kind-of : (t : List ℕ) (p b : ℕ) (bs : List ℕ) (k : Kind) → kind-of b ≡ k → At t p (b ∷ bs) → kind-of (get_or t p 0) ≡ k
-kind-of t p b bs k e a = ap kind-of (same-first t p b bs a.same) ∙ e
+kind-of : (t : List ℕ) (p b : ℕ) (bs : List ℕ) (k : Kind) → kind_of b ≡ k → At t p (b ∷ bs) → kind_of (get_or t p 0) ≡ k
+kind-of t p b bs k e a = ap kind_of (same-first t p b bs a.same) ∙ e
 
 module _ (t : List ℕ) (r : Reading) where
   pub reads-symbols : (arities : List ℕ) (at k : ℕ) (shape : RuleShape) (shapes : List RuleShape) → every (λ (a : ℕ). a ≤ 4) arities → k + length arities ≤ 32
       → At t at (each_bytes symbol_bytes arities)
       → ((at' k' : ℕ) → at' ≡ at + 2 * length arities → k' ≡ k + length arities → Reads t (scan_of at' 0 k' 0 shape) shapes r)
       → Reads t (scan_of at 0 k 0 shape) shapes r
-  unfolding each_bytes symbol_bytes bad_field strange behind kind-of
+  unfolding each_bytes symbol_bytes bad_field strange behind kind_of
   reads-symbols [] at k shape shapes g l a q = q at k (omega arith) (omega arith)
   reads-symbols (x ∷ xs) at k shape shapes g l a q =
       let here = at-left t at (symbol_bytes x) (each_bytes symbol_bytes xs) a in
@@ -169,7 +169,7 @@ reads-part t r m k shapes at stage at' stage' x y kind p b l q =
 
 -- what the definition says of a kind of head, where `kept` of n heads are kept
 record HeadKind (byte : ℕ) (kind : Kind) (last : ℕ) (kept : ℕ → ℕ) : Type 0 where
-  named : kind-of byte ≡ kind
+  named : kind_of byte ≡ kind
   size : size_of kind ≡ 22
   early : earliest_of kind ≡ 1
   late : latest_of kind ≡ last
@@ -181,7 +181,7 @@ record HeadKind (byte : ℕ) (kind : Kind) (last : ℕ) (kept : ℕ → ℕ) : T
       ≡ Next (scan_of (at + 22) last m k (shape_of start (kept (n + 1)) (n + 1) 0 0))
 
 kept-kind : HeadKind 3 KeptHead 2 (λ n. n)
-unfolding kind-of bad_field strange behind
+unfolding kind_of bad_field strange behind
 kept-kind = record {
   named = refl;
   size = refl;
@@ -195,7 +195,7 @@ kept-kind = record {
 }
 
 removed-kind : (kept : ℕ) → HeadKind 4 RemovedHead 3 (λ n. kept)
-unfolding kind-of bad_field strange behind
+unfolding kind_of bad_field strange behind
 removed-kind kept = record {
   named = refl;
   size = refl;
@@ -270,7 +270,7 @@ module _ (t arities : List ℕ) (declared : (k : ℕ) → k < length arities →
         → At t at (each_bytes guard_bytes gs)
         → ((at' stage' n' : ℕ) → at' ≡ at + 24 * length gs → n' ≡ n + length gs → 2 ≤ stage' → stage' ≤ 4 → in_rule at' stage' kept heads n' 0)
         → in_rule at stage kept heads n 0
-    unfolding each_bytes bad_field strange kind-of guard_bytes behind
+    unfolding each_bytes bad_field strange kind_of guard_bytes behind
     reads-guards [] at stage n l m few w a q = q at stage n (omega arith) (omega arith) l m
     reads-guards (g ∷ gs) at stage n l m few w a q =
         let here = at-left t at (guard_bytes g) (each_bytes guard_bytes gs) a in
@@ -295,7 +295,7 @@ module _ (t arities : List ℕ) (declared : (k : ℕ) → k < length arities →
     fact-passed : (at stage guards n s : ℕ) (es : List Formula) → 2 ≤ stage → stage ≤ 5 → n < 4 → ItemGood arities (head_terms hs) (fact s es)
         → At t at (item_bytes (fact s es))
         → Passes t (scan_of at stage (length arities) (k + 1) (shape_of start kept heads guards n)) BodyFact
-    unfolding bad_field strange kind-of item_bytes
+    unfolding bad_field strange kind_of item_bytes
     fact-passed at stage guards n s es l m few w a =
         let read = fact-decodes t at s es w.formulas a.same in
         record {
@@ -312,7 +312,7 @@ module _ (t arities : List ℕ) (declared : (k : ℕ) → k < length arities →
 
     fail-passed : (at stage guards n : ℕ) → 2 ≤ stage → stage ≤ 5 → n < 4 → At t at (item_bytes fail)
         → Passes t (scan_of at stage (length arities) (k + 1) (shape_of start kept heads guards n)) BodyFail
-    unfolding bad_field strange kind-of item_bytes
+    unfolding bad_field strange kind_of item_bytes
     fail-passed at stage guards n l m few a = record {
       kind = kind-of t at 7 [] BodyFail refl a;
       some = omega arith;
@@ -425,7 +425,7 @@ module _ (t arities : List ℕ) (declared : (k : ℕ) → k < length arities →
       → ((at' stage' : ℕ) → at' ≡ at + length (rule_bytes w) → 2 ≤ stage' → stage' ≤ 5
       → Reads t (scan_of at' stage' (length arities) (k + 1) (shape_at at w)) (set shapes k (shape_at at w)) r)
       → Reads t (scan_of at stage (length arities) k shape) shapes r
-  unfolding bad_field strange kind-of rule_bytes behind
+  unfolding bad_field strange kind_of rule_bytes behind
   reads-rule w at stage k shape shapes g a l one few q =
       let p = rule-at t at w a in
       let next = scan_of (at + 1) 1 (length arities) (k + 1) (shape_of at 0 0 0 0) in
@@ -494,7 +494,7 @@ ended-good t p e = rw (le-ltb p (length t) (omega arith))
 
 pub reads-end : (t : List ℕ) (at stage m k : ℕ) (shape : RuleShape) (shapes : List RuleShape) → At t at (8 ∷ []) → at + 1 ≡ length t → stage ≤ 5
     → eqb stage 1 ≡ false → Reads t (scan_of at stage m k shape) shapes (reading Good m k shapes)
-unfolding read_from go_on bad_field strange kind-of behind
+unfolding read_from go_on bad_field strange kind_of behind
 reads-end t at stage m k shape shapes a e l one = record { reads = go }
   where
     done : record_of t (scan_of at stage m k shape) ≡ Done (at + 1)

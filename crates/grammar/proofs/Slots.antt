@@ -15,7 +15,7 @@ use Rattle.wire.specs.Laws.{bits-below, signed-bits, bits-signed}
 use Rattle.model.specs.declared.Slot.{Slot}
 use Rattle.model.specs.declared.Slot.TheVariants.{Unused, Constant, Variable, Bad}
 use Rattle.model.specs.declared.Expression.{Expression}
-use Rattle.model.specs.Slots.{slot-by, slot-at, expression_at}
+use Rattle.model.specs.Slots.{slot_by, slot_at, expression_at}
 use Rattle.model.proofs.Ranges.{AreBytes}
 use Rattle.model.proofs.Lists.{every-get_d, either}
 use Rattle.grammar.specs.Tree.{Term, constant, variable, Formula, alone, applied, operation_number}
@@ -33,8 +33,8 @@ SlotTells tag value (Constant z) = (tag ≡ 1) × (signed_of value ≡ z)
 SlotTells tag value (Variable v) = (tag ≡ 2) × (value ≡ v) × (v ≤ 15)
 SlotTells tag value Bad = Unit {0}
 
-slot-tells : (tag value : ℕ) → SlotTells tag value (slot-by tag value)
-unfolding slot-by
+slot-tells : (tag value : ℕ) → SlotTells tag value (slot_by tag value)
+unfolding slot_by
 slot-tells tag value =
     let P = SlotTells tag value in
     either P (eqb tag 0) _ _
@@ -46,12 +46,12 @@ slot-tells tag value =
     (λ c. tt)))
 
 module _ (t : List ℕ) (p : ℕ) where
-  pub slot-at : (s : Slot) → slot-at t p ≡ s → SlotTells (get_or t p 0) (u32_at t (p + 1)) s
-  unfolding slot-at
+  pub slot-at : (s : Slot) → slot_at t p ≡ s → SlotTells (get_or t p 0) (u32_at t (p + 1)) s
+  unfolding slot_at
   slot-at s e = subst (SlotTells (get_or t p 0) (u32_at t (p + 1))) e (slot-tells (get_or t p 0) (u32_at t (p + 1)))
 
-  slot-by : (tag value : ℕ) → get_or t p 0 ≡ tag → u32_at t (p + 1) ≡ value → slot-at t p ≡ slot-by tag value
-  unfolding slot-at
+  slot-by : (tag value : ℕ) → get_or t p 0 ≡ tag → u32_at t (p + 1) ≡ value → slot_at t p ≡ slot_by tag value
+  unfolding slot_at
   slot-by tag value e d = rw (e, d)
 
 -- ---- terms
@@ -61,15 +61,15 @@ unfolding term_bytes bytes4
 term-long (constant z) = refl
 term-long (variable v) = refl
 
-variable-slot : (v : ℕ) → v ≤ 15 → slot-by 2 v ≡ Variable v
-unfolding slot-by
+variable-slot : (v : ℕ) → v ≤ 15 → slot_by 2 v ≡ Variable v
+unfolding slot_by
 variable-slot v h = rw (lt-ltb v 16 (omega arith))
 
-constant-slot : (z : ℤ) → InRange z → slot-by 1 (bits_of z) ≡ Constant z
-unfolding slot-by
+constant-slot : (z : ℤ) → InRange z → slot_by 1 (bits_of z) ≡ Constant z
+unfolding slot_by
 constant-slot z r = ap Constant (signed-bits z (in-range-fits r))
 
-pub term-decodes : (t : List ℕ) (p : ℕ) (a : Term) → TermGood a → Same t p (term_bytes a) → slot-at t p ≡ slot_of a
+pub term-decodes : (t : List ℕ) (p : ℕ) (a : Term) → TermGood a → Same t p (term_bytes a) → slot_at t p ≡ slot_of a
 unfolding term_bytes
 term-decodes t p (constant z) r s =
     slot-by t p 1 (bits_of z) (same-first t p 1 (bytes4 (bits_of z)) s)
@@ -79,8 +79,8 @@ term-decodes t p (variable v) h s =
     slot-by t p 2 v (same-first t p 2 (bytes4 v) s) (word-decodes t (p + 1) v (omega arith) (same-rest t p 2 (bytes4 v) s))
     ∙ variable-slot v h
 
-pub unused-decodes : (t : List ℕ) (p : ℕ) → Same t p unused_slot → slot-at t p ≡ Unused
-unfolding slot-by
+pub unused-decodes : (t : List ℕ) (p : ℕ) → Same t p unused_slot → slot_at t p ≡ Unused
+unfolding slot_by
 unused-decodes t p s = slot-by t p 0 0 (same-first t p 0 (replicate 4 0) s) (zeros-decode t (p + 1) (same-rest t p 0 (replicate 4 0) s))
 
 module _ (t : List ℕ) (u : AreBytes t) where
@@ -94,7 +94,7 @@ module _ (t : List ℕ) (u : AreBytes t) where
   pub bits-at : (p : ℕ) (z : ℤ) → signed_of (u32_at t p) ≡ z → u32_at t p ≡ bits_of z
   bits-at p z e = sym (bits-signed (u32_at t p) (below p)) ∙ ap bits_of e
 
-  pub term-encodes : (p : ℕ) (a : Term) → slot-at t p ≡ slot_of a → Same t p (term_bytes a)
+  pub term-encodes : (p : ℕ) (a : Term) → slot_at t p ≡ slot_of a → Same t p (term_bytes a)
   unfolding term_bytes
   term-encodes p (constant z) e =
       let q = slot-at t p (Constant z) e in
@@ -103,7 +103,7 @@ module _ (t : List ℕ) (u : AreBytes t) where
       let q = slot-at t p (Variable v) e in
       same-more t p 2 (bytes4 v) q.0 (word-encodes t u (p + 1) v q.1)
 
-pub unused-encodes : (t : List ℕ) (p : ℕ) → slot-at t p ≡ Unused → Same t p unused_slot
+pub unused-encodes : (t : List ℕ) (p : ℕ) → slot_at t p ≡ Unused → Same t p unused_slot
 unused-encodes t p e =
     let q = slot-at t p Unused e in
     same-more t p 0 (replicate 4 0) q.0 (zeros-encode t (p + 1) q.1)
@@ -120,12 +120,12 @@ formula-long (applied o (variable v) (constant z)) = refl
 formula-long (applied o (variable v) (variable w)) = refl
 
 module _ (t : List ℕ) (p : ℕ) where
-  expression-by : (o : ℕ) (l r : Slot) → get_or t p 0 ≡ o → slot-at t (p + 1) ≡ l → slot-at t (p + 6) ≡ r
+  expression-by : (o : ℕ) (l r : Slot) → get_or t p 0 ≡ o → slot_at t (p + 1) ≡ l → slot_at t (p + 6) ≡ r
       → expression_at t p ≡ record { operation = o; left = l; right = r }
   unfolding expression_at
   expression-by o l r a b c = rw (a, b, c)
 
-  expression-tells : (e : Expression) → expression_at t p ≡ e → (get_or t p 0 ≡ e.operation) × (slot-at t (p + 1) ≡ e.left) × (slot-at t (p + 6) ≡ e.right)
+  expression-tells : (e : Expression) → expression_at t p ≡ e → (get_or t p 0 ≡ e.operation) × (slot_at t (p + 1) ≡ e.left) × (slot_at t (p + 6) ≡ e.right)
   unfolding expression_at
   expression-tells e q = (ap (λ (x : Expression). x.operation) q, ap (λ (x : Expression). x.left) q, ap (λ (x : Expression). x.right) q)
 

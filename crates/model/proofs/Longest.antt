@@ -17,7 +17,7 @@ use Rattle.model.specs.declared.Scan.{Scan}
 use Rattle.model.specs.declared.RecordStep.TheVariants.{Next, Done}
 use Rattle.model.specs.declared.Verdict.TheVariants.{Good}
 use Rattle.model.specs.Records.{kind_of, size_of, out_of_order, headless, too_many}
-use Rattle.model.specs.Slots.{slot_by, slot-at}
+use Rattle.model.specs.Slots.{slot_by, slot_at}
 use Rattle.model.specs.Fields.{place_bad, arity_at, places_bad, top_of, expression_bad, arguments_bad, head_bad, guard_bad, body_fact_bad, bad_field}
 use Rattle.model.specs.Variables.{strange_slot, strange_expression, strange_guard, strange_fact, strange}
 use Rattle.model.specs.Reading.{no_shape, no_shapes, first_scan, behind, fields_of, ordered_of, tested_of, record_of, noted, ended, go_on, read_from, read_of}
@@ -90,8 +90,8 @@ module _ (t l : List ℕ) (p : ℕ) (e : drop p t ≡ l) where
   byte-here : get_or t p 0 ≡ get_or l 0 0
   byte-here = let z : p + 0 ≡ p = omega arith in rw z at (byte-at 0)
 
-  slot-at : (i : ℕ) → slot-at t (p + i) ≡ slot-at l i
-  unfolding slot-at u32_at
+  slot-at : (i : ℕ) → slot_at t (p + i) ≡ slot_at l i
+  unfolding slot_at u32_at
   slot-at i = simp (add_assoc, byte-at)
 
   places-at : (i arity : ℕ) → places_bad t (p + i) arity ≡ places_bad l i arity
@@ -107,7 +107,7 @@ module _ (t l : List ℕ) (p : ℕ) (e : drop p t ≡ l) where
   arguments-at i arity = simp (add_assoc, expression-at)
 
   strange-at : (start heads i : ℕ) → strange_expression t start heads (p + i)
-      ≡ (strange_slot t start heads (slot-at l (i + 1)) || strange_slot t start heads (slot-at l (i + 6)))
+      ≡ (strange_slot t start heads (slot_at l (i + 1)) || strange_slot t start heads (slot_at l (i + 6)))
   unfolding strange_expression
   strange-at start heads i = simp (add_assoc, slot-at)
 
@@ -121,15 +121,15 @@ module _ (t row rest : List ℕ) (p : ℕ) (e : drop p t ≡ row ++ rest) where
 -- ---- the tests of each row, where it lies
 
 head-closed : (rest : Bytes) → places_bad (head_row ++ rest) 2 0 ≡ false
-unfolding head_row places_bad place_bad slot-at slot_by u32_at
+unfolding head_row places_bad place_bad slot_at slot_by u32_at
 head-closed rest = refl
 
 guard-closed : (rest : Bytes) → (expression_bad (guard_row ++ rest) 2 true || expression_bad (guard_row ++ rest) 13 true) ≡ false
-unfolding guard_row expression_bad top_of place_bad slot-at slot_by u32_at
+unfolding guard_row expression_bad top_of place_bad slot_at slot_by u32_at
 guard-closed rest = refl
 
 fact-closed : (rest : Bytes) → arguments_bad (fact_row ++ rest) 2 0 ≡ false
-unfolding fact_row arguments_bad expression_bad top_of place_bad slot-at slot_by u32_at
+unfolding fact_row arguments_bad expression_bad top_of place_bad slot_at slot_by u32_at
 fact-closed rest = refl
 
 module _ (t : List ℕ) (arity : arity_at t 0 ≡ 0) (rest : Bytes) (p : ℕ) where
@@ -147,11 +147,11 @@ module _ (t : List ℕ) (arity : arity_at t 0 ≡ 0) (rest : Bytes) (p : ℕ) wh
   fact-fine e = rw (byte-at t (fact_row ++ rest) p e 1, arity, arguments-at t (fact_row ++ rest) p e 2 0) (fact-closed rest)
 
   guard-usual : (start heads : ℕ) → drop p t ≡ guard_row ++ rest → strange_guard t start heads p ≡ false
-  unfolding strange_guard strange_slot guard_row slot-at slot_by u32_at
+  unfolding strange_guard strange_slot guard_row slot_at slot_by u32_at
   guard-usual start heads e = rw (strange-at t (guard_row ++ rest) p e start heads 2, strange-at t (guard_row ++ rest) p e start heads 13)
 
   fact-usual : (start heads : ℕ) → drop p t ≡ fact_row ++ rest → strange_fact t start heads p ≡ false
-  unfolding strange_fact strange_slot fact_row slot-at slot_by u32_at
+  unfolding strange_fact strange_slot fact_row slot_at slot_by u32_at
   fact-usual start heads e =
       rw (
         strange-at t (fact_row ++ rest) p e start heads 2,

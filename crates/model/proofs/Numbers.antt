@@ -25,7 +25,7 @@ use Rattle.model.proofs.Endings.{run-ends}
 use Rattle.model.proofs.Results.{Refusal, call-cases}
 use Rattle.model.proofs.Build.{Bytes}
 use Rattle.model.proofs.Cases.{Case, runs, checks, weighs, cases, same, numbers_of, ran, agrees, all_agree, worked_runs}
-use Rattle.model.proofs.Cases.{run_numbers, are-bytes, gives, some_gives, all_given, given_numbers}
+use Rattle.model.proofs.Cases.{run_numbers, are_bytes, gives, some_gives, all_given, given_numbers}
 
 -- a call on bytes, with a buffer of so many bytes and a limit of 32 bits, gives n
 pub record GivenBy (n : ℕ) : Type 0 where
@@ -72,10 +72,10 @@ holds : (b : Bool) → T b → b ≡ true
 holds true x = refl
 holds false x = absurd x
 
-are-bytes : (bs : Bytes) → are-bytes bs ≡ true → AreBytes bs
-unfolding are-bytes
+are-bytes : (bs : Bytes) → are_bytes bs ≡ true → AreBytes bs
+unfolding are_bytes
 are-bytes [] e = tt
-are-bytes (b ∷ bs) e = (ltb-true b 256 (and-left (ltb b 256) (are-bytes bs) e), are-bytes bs (and-right (ltb b 256) (are-bytes bs) e))
+are-bytes (b ∷ bs) e = (ltb-true b 256 (and-left (ltb b 256) (are_bytes bs) e), are-bytes bs (and-right (ltb b 256) (are_bytes bs) e))
 
 same-first : (x : ℕ) (xs ys : List ℕ) → same (x ∷ xs) ys ≡ true → x ≡ get_or ys 0 0
 unfolding same
@@ -85,16 +85,16 @@ same-first x xs (y ∷ ys) e = eqb-true x y (and-left (eqb x y) (same xs ys) e)
 one-gives : (n : ℕ) (c : Case) → agrees c ≡ true → gives n c ≡ true → GivenBy n
 unfolding agrees gives ran numbers_of
 one-gives n (runs t g limit room ns a) w e =
-    let rest = and-right (eqb (get_or ns 0 0) n) (ltb limit 4294967296 && (are-bytes t && are-bytes g)) e in
-    let bytes = and-right (ltb limit 4294967296) (are-bytes t && are-bytes g) rest in
+    let rest = and-right (eqb (get_or ns 0 0) n) (ltb limit 4294967296 && (are_bytes t && are_bytes g)) e in
+    let bytes = and-right (ltb limit 4294967296) (are_bytes t && are_bytes g) rest in
     record {
       table = t;
       goal = g;
       limit = limit;
       room = room;
-      table_bytes = are-bytes t (and-left (are-bytes t) (are-bytes g) bytes);
-      goal_bytes = are-bytes g (and-right (are-bytes t) (are-bytes g) bytes);
-      fits = ltb-true limit 4294967296 (and-left (ltb limit 4294967296) (are-bytes t && are-bytes g) rest);
+      table_bytes = are-bytes t (and-left (are_bytes t) (are_bytes g) bytes);
+      goal_bytes = are-bytes g (and-right (are_bytes t) (are_bytes g) bytes);
+      fits = ltb-true limit 4294967296 (and-left (ltb limit 4294967296) (are_bytes t && are_bytes g) rest);
       number = same-first (run_of t g limit (replicate room 165)).result.number _ ns (and-left _ _ w)
           ∙ eqb-true (get_or ns 0 0) n (and-left (eqb (get_or ns 0 0) n) _ e);
     }

@@ -9,7 +9,7 @@ use Rattle.std.proofs.lemmas.Bool.{lt-leb}
 use Rattle.numbers.specs.declared.Value.{Value}
 use Rattle.numbers.specs.declared.Value.TheVariants.{Number, Undefined}
 use Rattle.numbers.specs.declared.Truth.TheVariants.{Undefined as Unknown}
-use Rattle.numbers.specs.Numbers.{lowest, highest, in-range, exact, equal, unless_zero, sum_of, difference_of, product_of, quotient_of, remainder_of}
+use Rattle.numbers.specs.Numbers.{lowest, highest, in_range, exact, equal, unless_zero, sum_of, difference_of, product_of, quotient_of, remainder_of}
 use Rattle.numbers.specs.Numbers.{operate, on_numbers, evaluate, judge, compare}
 
 -- ---- a value that is a number lies in the range
@@ -38,13 +38,13 @@ both true true e = (tt, tt)
 both true false e = absurd (subst T (sym e) tt)
 both false t e = absurd (subst T (sym e) tt)
 
-in-range : (z : ℤ) → in-range z ≡ true → InRange z
-unfolding in-range
+in-range : (z : ℤ) → in_range z ≡ true → InRange z
+unfolding in_range
 in-range z e = let h = both (le_z lowest z) (le_z z highest) e in record { low = record { le = h.0 }; high = record { le = h.1 } }
 
 -- and a number that lies in the range is its own exact value
 pub exact-number : {z : ℤ} → InRange z → exact z ≡ Number z
-unfolding exact in-range
+unfolding exact in_range
 exact-number {z = pos n} r = simp (le-leb n (mag highest) (leb→le n (mag highest) r.high.le)) refl
 exact-number {z = negsuc n} r = simp (le-leb n (mag lowest) (leb→le n (mag lowest) r.low.le)) refl
 
@@ -62,13 +62,13 @@ ranged-cond : (t : Bool) {x y : Value} → Ranged x → Ranged y → Ranged (con
 ranged-cond true p q = p
 ranged-cond false p q = q
 
-ranged-test : (t : Bool) (z : ℤ) → in-range z ≡ t → Ranged (cond t (Number z) Undefined)
+ranged-test : (t : Bool) (z : ℤ) → in_range z ≡ t → Ranged (cond t (Number z) Undefined)
 ranged-test true z e = ranged-number (in-range z e)
 ranged-test false z e = ranged-undefined
 
 pub exact-ranged : (z : ℤ) → Ranged (exact z)
 unfolding exact
-exact-ranged z = ranged-test (in-range z) z refl
+exact-ranged z = ranged-test (in_range z) z refl
 
 -- by a divisor other than 0 a division has the value that it says
 pub unless-other : (b : ℤ) (v : Value) → b ≢ pos 0 → unless_zero b v ≡ v

@@ -188,7 +188,7 @@ module _ {t : List ℕ} {p : HeadPlace} {shape : RuleShape} {j depth stored note
 
   pub applying : Applying t shape depth made₀
   applying = record {
-    items-in = items-lie t (read_of t).symbols (items_start shape) shape.items good.body_in;
+    items_in = items-lie t (read_of t).symbols (items_start shape) shape.items good.body_in;
     room = record { few = good.few_items; whole = r.whole_made };
     deep = r.deep;
     deep_few = r.deep_few;
@@ -399,7 +399,7 @@ module _ {t : List ℕ} {p : HeadPlace} {shape : RuleShape} {j depth stored note
           same = λ st es v. has-room st es v be (made-count t (items_start shape) shape.items made) z;
           sure = record {
             held = record { whole = chosen-whole; few = good.few_heads };
-            items-in = applying.items_in;
+            items_in = applying.items_in;
             items_few = good.few_items;
             kept_few = good.kept_few;
             under = base-under shape.kept p.head depth refl;

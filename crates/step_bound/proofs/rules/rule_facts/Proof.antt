@@ -1,4 +1,4 @@
--- `rules::rule-facts` meets its contract.
+-- `rules::rule_facts` meets its contract.
 use Rattle.rule_weights.proofs.Turns.{body-lies}
 use Rattle.step_bound.proofs.Turns.{rule-facts}
 use borrow.Author.Rules.{rules}

@@ -1,4 +1,4 @@
--- `store::columns::leave-out` meets its contract: the first rows hold what stays of the rows passed, and the rows behind are as they were.
+-- `store::columns::leave_out` meets its contract: the first rows hold what stays of the rows passed, and the rows behind are as they were.
 use Prim.Native.Nat.{◌-◌}
 use lib.ListN.{drop}
 use borrow.Author.Rules.{rules}
