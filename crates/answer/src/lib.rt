@@ -1,4 +1,6 @@
 // The answer's bytes, from the store's columns: "kind 17 records by rising identifier, then bytes as they were".
+#![tactic(auto)]
+
 ghost use Rattle.std.specs.Prelude.{◌≡◌, ◌++◌, ◌+◌, ◌*◌, ◌≤◌, ◌<◌, length, take, drop};
 ghost use Rattle.model.specs.Limits.{store_room};
 ghost use Rattle.model.specs.Answer.{stored_bytes, answered};

@@ -1,4 +1,6 @@
 // Assembling a table's bytes from the tokens of a text, one token after the other (specs/Moves.antt).
+#![tactic(auto)]
+
 ghost use Rattle.tokens.specs.Views.{token_of, Sane};
 ghost use Rattle.assembly.specs.Moves.{moved};
 ghost use Rattle.assembly.specs.Advances.{PhaseNear, PhaseGoes, Advanced};

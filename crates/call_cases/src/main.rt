@@ -4,6 +4,8 @@
 // A case is its kind (`C` check, `R` run, `W` weigh, `F` find weights, `T` read text, `P` print text), five words of 32 bits (the lengths of table, goal and
 // weights, the step limit, the length of the answer buffer), then table, goal and weights. A text stands where a table does, and the buffer that is written
 // is the answer buffer. A single byte ends the cases.
+#![tactic(auto)]
+
 ghost use Rattle.std.specs.Prelude.{◌≡◌, ◌≤◌, length};
 
 use libc::STDIN_FILENO;

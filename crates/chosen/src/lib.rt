@@ -1,4 +1,6 @@
 // The identifiers chosen for the heads of a rule, in head order: an array of four, of which the first ones are in use.
+#![tactic(auto)]
+
 ghost use Rattle.std.specs.Prelude.{◌≡◌, drop, get_or};
 ghost use Rattle.model.specs.Search.{is_among, nobody};
 ghost use Rattle.chosen.specs.Views.{fact_id, ids_of, Held};

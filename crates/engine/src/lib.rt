@@ -1,4 +1,6 @@
 // The engine: from a table's and a goal's bytes to a result and an answer. The state of a run lives in one frame and is changed in place.
+#![tactic(auto)]
+
 ghost use Rattle.std.specs.Prelude.{◌≡◌};
 ghost use Rattle.model.specs.Calls.{output_of, run_of};
 ghost use Rattle.model.specs.Goal.{goal_of};

@@ -1,5 +1,7 @@
 // The tests of a record's fields. Each record lies in the table.
 // 20, "bad field: arity, undeclared symbol, tag, operation, comparator, unused or used place, variable".
+#![tactic(auto)]
+
 ghost use Rattle.std.specs.Prelude.{◌≡◌, ◌+◌, ◌≤◌, length};
 ghost use Rattle.model.specs.declared.Kind.TheVariants.{KeptHead, Comparison, BodyFact};
 ghost use Rattle.model.specs.Records.{size_of};

@@ -1,6 +1,8 @@
 // The call that looks for weights with which every rule of a table loses weight. Where each rule has one removed head, it finds weights if there are any: no
 // weight is raised further than it must be (`find-complete`). Where a rule has more, it may miss them: it finds none for `a, b <=> a, a`, which
 // loses weight with 1 and 2.
+#![tactic(auto)]
+
 ghost use Rattle.std.specs.Prelude.{◌≡◌, true, eqb, length};
 ghost use Rattle.model.specs.Reading.{read_of};
 ghost use Rattle.rule_weights.specs.Views.{Known};

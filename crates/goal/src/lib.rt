@@ -1,4 +1,6 @@
 // Reading a goal: 32, 34, 33, and the facts where they lie in its bytes.
+#![tactic(auto)]
+
 ghost use Rattle.std.specs.Prelude.{◌≡◌, ◌+◌, ◌*◌, ◌≤◌, length};
 ghost use Rattle.wire.specs.Wire.{u32_at};
 ghost use Rattle.model.specs.Goal.{fact_at, later_bad, later_places_bad, goal_fact_bad, facts_verdict, goal_verdict};

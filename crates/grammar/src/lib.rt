@@ -1,1 +1,3 @@
 // The grammar of tables is specs/ and proofs/ alone: this crate has no code.
+
+#![tactic(auto)]

@@ -1,4 +1,6 @@
 // The history: entries of plain numbers, the rule and the identifiers in head order, so that it can be lent.
+#![tactic(auto)]
+
 ghost use Rattle.std.specs.Prelude.{◌≡◌, ◌+◌, ◌≤◌, length, drop, replicate};
 ghost use Rattle.model.specs.Limits.{history_room, most_heads};
 ghost use Rattle.model.specs.Search.{fired_of, same_fired, in_history};

@@ -1,4 +1,6 @@
 // A head against the rows of the store: what a row must show before it is tried, and the match itself.
+#![tactic(auto)]
+
 use model::Symbol;
 
 pub mod heads;

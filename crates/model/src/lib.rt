@@ -1,5 +1,7 @@
 // The types that every crate of the engine shares. The definition (specs/) speaks of them too, so that a
 // contract can name the definition's own value.
+#![tactic(auto)]
+
 ghost use Rattle.std.specs.Prelude.{◌≡◌};
 ghost use Rattle.model.specs.Steps.{fail_entry, no_stored};
 ghost use Rattle.model.specs.Results.{counts_of, result_of, refusal};

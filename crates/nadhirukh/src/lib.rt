@@ -1,4 +1,6 @@
 // The calls for a C host, thin over the proved library. A slice is C's pointer and length; include/nadhirukh.h declares them.
+#![tactic(auto)]
+
 ghost use Rattle.model.specs.Calls.{check_of, run_of, weigh_of};
 ghost use Rattle.finding_weights.specs.Find.{find_of};
 ghost use Rattle.text_reader.specs.ReadText.{read_text_of};

@@ -4,6 +4,8 @@
 // A case is 12 bytes: a kind, a number, and ten more. Kind 0 is the operation of that number and kind 1 the comparator, on two
 // sides, each a tag (0: undefined) and four bytes of value. Kind 2 reads at that place of the case itself, and at the last place
 // of all where the number is 255. Kind 3 writes the value of the four bytes from 2 on at that place of eight zeros.
+#![tactic(auto)]
+
 use libc::STDIN_FILENO;
 use numbers::{Truth, Value};
 use printing::{put, put_signed, put_unsigned};

@@ -1,5 +1,7 @@
 // Exact whole numbers of 32 bits: the operations of expressions and the comparators of guards.
 // No public function here has a `requires`: each takes every input, and its contract gives the one result that the definition gives.
+#![tactic(auto)]
+
 ghost use Rattle.std.specs.Prelude.{◌≡◌, cond, ◌≢◌, pos, negsuc, neg_ℤ, ◌-ℤ◌};
 ghost use Rattle.std.specs.Int.Signed.{lt_z};
 ghost use Rattle.numbers.specs.Numbers as Numbers;

@@ -1,6 +1,8 @@
 // The place of an occurrence, counted through the rule heads when it is asked for: "Occurrences of a symbol are counted from 1 over rules from first
 // to last, and inside a rule from the last head to the first". A run keeps a mark on the last place that it found. Counting goes on from there, so
 // that a fact's way over its occurrences passes each head once.
+#![tactic(auto)]
+
 ghost use Rattle.std.specs.Prelude.{◌≡◌, ◌-◌};
 ghost use Rattle.std.proofs.Math.ListN.{get_elem?};
 ghost use Rattle.model.specs.Table.{table_of, places};

@@ -1,1 +1,3 @@
 // Reading tokens into a tree is specs/ and proofs/ alone: this crate has no code.
+
+#![tactic(auto)]

@@ -1,6 +1,8 @@
 // The program *print_text*: reads a table from the standard input, and prints it as text. Of a refused table it prints nothing there: the number and the
 // place of the refusal go to the standard error. Of an input of more than 65,536 bytes the first 65,536 are taken: no good table has more than 23,681, and
 // each refusal lies before.
+#![tactic(auto)]
+
 use libc::STDIN_FILENO;
 use printing::{put_front, put_refusal};
 

@@ -1,6 +1,8 @@
 // What the programs print: numbers, bytes in hexadecimal, a result's numbers, the facts of an answer, and the front of a buffer on the standard output; a
 // refusal on the standard error.
 // What a call of C's writes no contract can say, so these have none: each is proved safe and ending.
+#![tactic(auto)]
+
 use libc::{STDERR_FILENO, STDOUT_FILENO};
 use model::{Answer, CallResult, Symbol};
 use records::geometry;

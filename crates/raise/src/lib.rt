@@ -1,4 +1,6 @@
 // One raise of a search for weights: the symbol of a rule's first removed head is raised, by just as much as makes the rule lose weight.
+#![tactic(auto)]
+
 ghost use Rattle.std.specs.Prelude.{◌≡◌, suc, ◌-◌, ◌≤◌};
 ghost use Rattle.model.specs.Table.{rule_of};
 ghost use Rattle.rule_weights.specs.Views.{Lies};

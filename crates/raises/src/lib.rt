@@ -1,4 +1,6 @@
 // The raises of a search for weights: one after the other, until every rule of a table loses weight or the first that does not cannot be raised.
+#![tactic(auto)]
+
 ghost use Rattle.std.specs.Prelude.{◌≡◌, length};
 ghost use Rattle.model.specs.Table.{table_of};
 ghost use Rattle.rule_weights.specs.Views.{Known, first_rule};

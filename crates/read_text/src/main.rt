@@ -1,5 +1,7 @@
 // The program *read_text*: reads a text from the standard input, and writes the bytes of the table that it stands for. Of a refused text it writes nothing
 // there: the number and the place of the refusal go to the standard error.
+#![tactic(auto)]
+
 use libc::STDIN_FILENO;
 use printing::{put_front, put_refusal};
 use text_reader::LONGEST_TEXT;

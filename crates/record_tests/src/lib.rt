@@ -1,4 +1,6 @@
 // The tests of one record, in the order 16, 17; 18, 21, 19; 20, 22, and what is known behind it.
+#![tactic(auto)]
+
 ghost use Rattle.std.specs.Prelude.{◌≡◌, false, ◌+◌, ◌^◌, ◌≤◌, ◌<◌, length};
 ghost use Rattle.model.specs.declared.Kind.TheVariants.{NextSymbol};
 ghost use Rattle.model.specs.Limits.{most_symbols, most_rules, most_heads, most_guards, most_items};

@@ -1,4 +1,6 @@
 // What a rule weighs: the weight of a symbol, of a rule's two sides, and the first rule of a table that does not lose weight.
+#![tactic(auto)]
+
 pub mod bodies;
 pub mod heads;
 pub mod rules;

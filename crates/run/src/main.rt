@@ -1,5 +1,7 @@
 // The program *run*: reads a table followed by goal records from the standard input, and runs them. It prints the result and,
 // after 0, one line for each fact stored: identifier, symbol, arguments used.
+#![tactic(auto)]
+
 use libc::STDIN_FILENO;
 use model::{Answer, CallResult, Goal, Table};
 use printing::{put, put_facts, put_result};

@@ -1,4 +1,6 @@
 // The input of the program *run*: "a table followed by goal records .. the table ends at its first end record".
+#![tactic(auto)]
+
 ghost use Rattle.std.specs.Prelude.{◌≡◌};
 ghost use Rattle.model.specs.Records.{kind_of, size_of};
 ghost use Rattle.run_input.specs.Input.{EndsAt};

@@ -1,5 +1,7 @@
 // The partner search: the first applicable instance of a rule at an occurrence. It reads the store through lent columns of
 // plain numbers, and the table where it lies; nothing that holds an array goes by value on the way of a try.
+#![tactic(auto)]
+
 use model::{FactId, HeadPlace, RuleShape};
 
 pub mod partners;

@@ -1,5 +1,7 @@
 // Where a table's rules stand, as columns of plain numbers, which can be lent: one of their starts, and one of how many kept heads, heads, guards and
 // body items each has, in the four bytes of a word.
+#![tactic(auto)]
+
 ghost use Rattle.std.specs.Prelude.{◌≡◌, replicate, ◌<◌};
 ghost use Rattle.model.specs.Limits.{most_rules};
 ghost use Rattle.shapes.specs.Columns.{packed, shape_at, Narrow, Put};

@@ -1,4 +1,6 @@
 // A step of a run: what the top entry comes to. Nothing here changes stack, store or history.
+#![tactic(auto)]
+
 use model::{Entry, RuleNumber};
 
 pub mod activating;

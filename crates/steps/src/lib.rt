@@ -1,4 +1,6 @@
 // The steps of a run, in one frame: the arrays of stack and history are this function's own, and each turn changes them in place.
+#![tactic(auto)]
+
 ghost use Rattle.std.specs.Prelude.{◌≡◌};
 ghost use Rattle.model.specs.Goal.{goal_of};
 ghost use Rattle.model.specs.Run.{run};

@@ -1,5 +1,7 @@
 // Reading a table (document 01, "Table, goal and answer bytes"): record by record, each tested in the order
 // 16, 17, 18, 21, 19, 20, 22 (crate record_tests); then 23.
+#![tactic(auto)]
+
 ghost use Rattle.std.specs.Prelude.{◌≡◌};
 ghost use Rattle.model.specs.Reading.{first_scan, no_shape, ended, reading, read_of};
 ghost use Rattle.model.specs.Calls.{check_of};

@@ -1,1 +1,3 @@
 // The tokens and the grammar of rules as text are specs/ and proofs/ alone: this crate has no code.
+
+#![tactic(auto)]

@@ -1,5 +1,7 @@
 // Printing a table as text (document 02, No. 2): "A printer refuses bad tables as document 01 does and prints any good one as text". The text is measured
 // before it is written, by the same functions, so that a refused call writes nothing.
+#![tactic(auto)]
+
 pub mod sections;
 
 ghost use Rattle.std.specs.Prelude.{◌≡◌, leb, length};

@@ -1,4 +1,6 @@
 // Reading rules as text into a table's bytes (document 02, No. 2; specs/ReadText.antt).
+#![tactic(auto)]
+
 ghost use Rattle.std.specs.Prelude.{◌≡◌, ◌++◌, ◌<◌, ◌≤◌, length, drop, replicate};
 ghost use Rattle.model.specs.Results.{refusal};
 ghost use Rattle.text_reader.specs.ReadText.{read_text_of};

@@ -1,4 +1,6 @@
 // The token at a place of a text, found in one pass over its bytes.
+#![tactic(auto)]
+
 ghost use Rattle.std.specs.Prelude.{◌≡◌, ◌<◌, length};
 ghost use Rattle.text.specs.Token.{is_slot};
 ghost use Rattle.tokens.specs.Views.{token_of, FoundAt};

@@ -1,5 +1,7 @@
 // The test of a record's variables: 22, "guard or body variable in no head". A mark for each variable says whether a head of the rule has it:
 // the marks are made while the heads are read, so that no head is read again.
+#![tactic(auto)]
+
 ghost use Rattle.std.specs.Prelude.{◌≡◌, ◌+◌, ◌≤◌, length, replicate, false};
 ghost use Rattle.model.specs.declared.Kind.TheVariants.{KeptHead, Comparison, BodyFact};
 ghost use Rattle.model.specs.Records.{size_of};

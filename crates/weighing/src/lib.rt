@@ -1,4 +1,6 @@
 // Weighing a table: "Weighing tests table, 40, 41, 42, then the goal; on 0 it gives the W and step bound .., and otherwise both are 0."
+#![tactic(auto)]
+
 pub mod goals;
 
 ghost use Rattle.std.specs.Prelude.{◌≡◌, eqb, length};

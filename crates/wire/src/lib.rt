@@ -1,5 +1,7 @@
 // Words of 32 bits in byte slices, the lowest byte first; signed ones in two's complement.
 // A `read_` takes every place and reads 0 past the end; a `_within` tests no end, and its caller shows that the word is inside.
+#![tactic(auto)]
+
 ghost use Rattle.std.specs.Prelude.{◌≡◌, ◌+◌, ◌≤◌, length};
 ghost use Rattle.wire.specs.Wire.{byte_at, joined, u32_at, i32_at, signed_of, bits_of, put_u32};
 
