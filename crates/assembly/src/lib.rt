@@ -14,14 +14,14 @@ mod pieces;
 mod words;
 
 // Which heads of a rule are read: the first ones, from this place on, or those behind "\".
-#[derive(Drop)]
+#[derive(Clone, Copy)]
 pub enum Group {
     First(usize),
     Second,
 }
 
 // Where an expression stands: left or right in a comparison, or a body fact's argument behind so many.
-#[derive(Drop)]
+#[derive(Clone, Copy)]
 pub enum Side {
     Left,
     Right,
@@ -29,7 +29,7 @@ pub enum Side {
 }
 
 // What is read of the part that a text is in (crate parsing has the trees).
-#[derive(Drop)]
+#[derive(Clone, Copy)]
 pub enum Phase {
     Declared,
     Named(u8),
@@ -55,7 +55,7 @@ pub enum Phase {
 }
 
 // Where the record being read, or the next one, begins in the table, and the phase.
-#[derive(Drop)]
+#[derive(Clone, Copy)]
 pub struct Assembly {
     pub at: usize,
     pub phase: Phase,
@@ -64,7 +64,7 @@ pub struct Assembly {
 // ---- a token as numbers, so that one test tells its class, or which mark it is
 
 // The class, what a symbol, a comparator or an operation says, and the 32 bits of a slot. The tag of a slot is its class.
-#[derive(Drop)]
+#[derive(Clone, Copy)]
 pub struct Word {
     pub class: u8,
     pub number: u8,

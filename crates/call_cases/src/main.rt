@@ -8,11 +8,13 @@
 
 ghost use Rattle.std.specs.Prelude.{◌≡◌, ◌≤◌, length};
 
-use libc::STDIN_FILENO;
 use model::{Answer, CallResult};
 use printing::{put, put_hex, put_next, put_result};
 use text_printer::Printing;
 use text_reader::TextRead;
+
+// The stream that a program reads.
+const STDIN_FILENO: i32 = 0;
 
 // More cases than there are: a loop needs a number that falls, since nothing says that an input ends.
 const MOST_CASES: u32 = 1000000;
@@ -21,7 +23,7 @@ const MOST_CASES: u32 = 1000000;
 const FILL: u8 = 165;
 
 // A case's header: its kind, the lengths of table, goal and weights, the step limit, and the length of the answer buffer.
-#[derive(Drop)]
+#[derive(Clone, Copy)]
 struct Header {
     kind: u8,
     table: u32,
@@ -125,7 +127,8 @@ fn run_case(h: Header, table: &[u8], goal: &[u8]) {
 fn find_in(table: &[u8], held: &[u8], buffer: &mut [u8])
     requires { length held.now ≤ length buffer.old }
 {
-    bytes::copy(held, buffer);
+    let end = held.len();
+    buffer[..end].copy_from_slice(held);
     let r = finding_weights::find_weights(table, buffer);
     put(b"F ");
     put_result(r);

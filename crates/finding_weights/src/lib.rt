@@ -15,7 +15,7 @@ fn write(found: &[u8], weights: &mut [u8])
     requires { length found.now ≡ length weights.old }
     ensures { weights.new ≡ found.now }
 {
-    bytes::copy(found, weights);
+    weights.copy_from_slice(found);
 }
 
 // Searches in `own`, so that `weights` is written only with what is found.

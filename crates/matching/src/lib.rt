@@ -8,7 +8,7 @@ pub mod probing;
 
 // What a row must show before it is tried for a head: its symbol, and one argument where the head has a constant or a variable
 // that is bound.
-#[derive(Drop)]
+#[derive(Clone, Copy)]
 pub struct Probe {
     pub symbol: Symbol,
     pub settled: bool,
@@ -17,7 +17,7 @@ pub struct Probe {
 }
 
 // The value that an argument must have to match a slot, where that is known before the match.
-#[derive(Drop)]
+#[derive(Clone, Copy)]
 pub enum Settled {
     To(i32),
     Open,

@@ -7,22 +7,22 @@ ghost use Rattle.model.specs.Steps.{fail_entry, no_stored};
 ghost use Rattle.model.specs.Results.{counts_of, result_of, refusal};
 
 // Identifiers, symbols, rules and occurrences count separate things: no one of them passes as another.
-#[derive(Drop)]
+#[derive(Clone, Copy)]
 pub struct FactId(pub u32);
 
-#[derive(Drop)]
+#[derive(Clone, Copy)]
 pub struct Symbol(pub u8);
 
-#[derive(Drop)]
+#[derive(Clone, Copy)]
 pub struct RuleNumber(pub u8);
 
-#[derive(Drop)]
+#[derive(Clone, Copy)]
 pub struct Occurrence(pub u16);
 
 // ---- facts, the store and the stack
 
 // Places that the symbol does not use are zero.
-#[derive(Drop)]
+#[derive(Clone, Copy)]
 pub struct Fact {
     pub symbol: Symbol,
     pub a0: i32,
@@ -31,13 +31,13 @@ pub struct Fact {
     pub a3: i32,
 }
 
-#[derive(Drop)]
+#[derive(Clone, Copy)]
 pub struct Stored {
     pub id: FactId,
     pub fact: Fact,
 }
 
-#[derive(Drop)]
+#[derive(Clone, Copy)]
 pub enum Item {
     Waiting(Fact),
     Active(FactId, Occurrence),
@@ -45,7 +45,7 @@ pub enum Item {
 }
 
 // An entry knows its symbol, since an active fact that was removed still goes on over its occurrences.
-#[derive(Drop)]
+#[derive(Clone, Copy)]
 pub struct Entry {
     pub symbol: Symbol,
     pub item: Item,
@@ -88,7 +88,7 @@ impl Stored {
 // ---- a rule's parts
 
 // Five bytes: a tag and a value. Bad is what no good table holds.
-#[derive(Drop)]
+#[derive(Clone, Copy)]
 pub enum Slot {
     Unused,
     Constant(i32),
@@ -96,7 +96,7 @@ pub enum Slot {
     Bad,
 }
 
-#[derive(Drop)]
+#[derive(Clone, Copy)]
 pub struct Expression {
     pub operation: u8,
     pub left: Slot,
@@ -104,7 +104,7 @@ pub struct Expression {
 }
 
 // What the variables 0..15 are bound to, where they are.
-#[derive(Drop)]
+#[derive(Clone, Copy)]
 pub struct Binding {
     pub values: [i32; Rule::VARIABLES],
     pub bound: [bool; Rule::VARIABLES],
@@ -112,7 +112,7 @@ pub struct Binding {
 
 // Where a rule stands in its table's bytes, and how many parts of each sort it has; `heads` counts kept and removed ones.
 // Eight bytes, since 64 of them go by value with a reading.
-#[derive(Drop)]
+#[derive(Clone, Copy)]
 pub struct RuleShape {
     pub start: u32,
     pub kept: u8,
@@ -122,7 +122,7 @@ pub struct RuleShape {
 }
 
 // A head of a rule, counted from 0 in written head order.
-#[derive(Drop)]
+#[derive(Clone, Copy)]
 pub struct HeadPlace {
     pub rule: RuleNumber,
     pub head: u8,
@@ -131,7 +131,7 @@ pub struct HeadPlace {
 // ---- reading a table
 
 // The kinds of a table's records.
-#[derive(Drop)]
+#[derive(Clone, Copy)]
 pub enum Kind {
     NextSymbol,
     NextRule,
@@ -145,7 +145,7 @@ pub enum Kind {
 }
 
 // What the records before an offset have said.
-#[derive(Drop)]
+#[derive(Clone, Copy)]
 pub struct Scan {
     // the offset of the next record
     pub at: usize,
@@ -158,7 +158,7 @@ pub struct Scan {
 }
 
 // What one record comes to.
-#[derive(Drop)]
+#[derive(Clone, Copy)]
 pub enum RecordStep {
     // a good record: what is known behind it
     Next(Scan),
@@ -168,14 +168,14 @@ pub enum RecordStep {
     Done(usize),
 }
 
-#[derive(Drop)]
+#[derive(Clone, Copy)]
 pub enum Verdict {
     Good,
     Refused(u8, usize),
 }
 
 // A table as it is read: whether it is good, and where its rules stand. Shapes behind the last rule are zero.
-#[derive(Drop)]
+#[derive(Clone, Copy)]
 pub struct Reading {
     pub verdict: Verdict,
     pub symbols: u8,
@@ -186,7 +186,7 @@ pub struct Reading {
 // ---- results
 
 // "A result has: number, place, steps, firings, identifiers given, facts stored."
-#[derive(Drop)]
+#[derive(Clone, Copy)]
 pub struct CallResult {
     pub number: u32,
     pub place: u32,
@@ -230,7 +230,7 @@ impl CallResult {
 }
 
 // A weighing: its result, W and the step bound.
-#[derive(Drop)]
+#[derive(Clone, Copy)]
 pub struct Weighing {
     pub result: CallResult,
     pub weight: u32,
@@ -240,7 +240,6 @@ pub struct Weighing {
 // ---- room
 
 // "Limits: 32 symbols, 64 rules, and per rule 1..4 heads, 0..4 guards, 0..4 body items."
-#[derive(Drop)]
 pub struct Table;
 
 impl Table {
@@ -251,7 +250,6 @@ impl Table {
     pub const LONGEST: usize = 23681;
 }
 
-#[derive(Drop)]
 pub struct Rule;
 
 impl Rule {
@@ -266,7 +264,6 @@ impl Rule {
 }
 
 // "Goal 0..64 facts."
-#[derive(Drop)]
 pub struct Goal;
 
 impl Goal {
@@ -276,21 +273,18 @@ impl Goal {
 }
 
 // "Store 128, stack 256, history 256."
-#[derive(Drop)]
 pub struct Store;
 
 impl Store {
     pub const CAPACITY: usize = 128;
 }
 
-#[derive(Drop)]
 pub struct Stack;
 
 impl Stack {
     pub const CAPACITY: usize = 256;
 }
 
-#[derive(Drop)]
 pub struct History;
 
 impl History {
@@ -298,14 +292,12 @@ impl History {
 }
 
 // "Step limit 0..20,000,000. Answer buffer at least 2,816 bytes."
-#[derive(Drop)]
 pub struct StepLimit;
 
 impl StepLimit {
     pub const MAX: u32 = 20000000;
 }
 
-#[derive(Drop)]
 pub struct Answer;
 
 impl Answer {

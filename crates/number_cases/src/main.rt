@@ -6,9 +6,11 @@
 // of all where the number is 255. Kind 3 writes the value of the four bytes from 2 on at that place of eight zeros.
 #![tactic(auto)]
 
-use libc::STDIN_FILENO;
 use numbers::{Truth, Value};
 use printing::{put, put_signed, put_unsigned};
+
+// The stream that a program reads.
+const STDIN_FILENO: i32 = 0;
 
 const LAST_PLACE: usize = 18446744073709551615;
 

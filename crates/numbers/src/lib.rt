@@ -7,14 +7,14 @@ ghost use Rattle.std.specs.Int.Signed.{lt_z};
 ghost use Rattle.numbers.specs.Numbers as Numbers;
 
 // What an expression comes to.
-#[derive(Drop)]
+#[derive(Clone, Copy)]
 pub enum Value {
     Number(i32),
     Undefined,
 }
 
 // What a comparison comes to.
-#[derive(Drop)]
+#[derive(Clone, Copy)]
 pub enum Truth {
     True,
     False,

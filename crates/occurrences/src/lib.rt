@@ -12,14 +12,14 @@ use model::{HeadPlace, Occurrence, RuleNumber, RuleShape, Symbol, Table};
 use records::geometry;
 use records::geometry::HeadBytes;
 
-#[derive(Drop)]
+#[derive(Clone, Copy)]
 pub enum Spot {
     At(HeadPlace),
     Nothing,
 }
 
 // The occurrence found last, and its place. Occurrences count from 1; at 0 none is found yet.
-#[derive(Drop)]
+#[derive(Clone, Copy)]
 pub struct Mark {
     pub symbol: Symbol,
     pub occurrence: Occurrence,
@@ -27,7 +27,7 @@ pub struct Mark {
 }
 
 // What counting comes to in a rule: the head that is asked for, or how many places are still to be passed behind it.
-#[derive(Drop)]
+#[derive(Clone, Copy)]
 pub enum Look {
     Found(u8),
     Left(u16),

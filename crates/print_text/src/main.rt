@@ -3,8 +3,10 @@
 // each refusal lies before.
 #![tactic(auto)]
 
-use libc::STDIN_FILENO;
 use printing::{put_front, put_refusal};
+
+// The stream that a program reads.
+const STDIN_FILENO: i32 = 0;
 
 fn print(table: &[u8]) {
     let mut text = io::large_buffer();

@@ -11,11 +11,11 @@ use records::geometry;
 use records::geometry::HeadBytes;
 use rule_weights::rules;
 
-#[derive(Drop)]
+#[derive(Clone, Copy)]
 pub struct Weight(pub u8);
 
 // A symbol and its new weight.
-#[derive(Drop)]
+#[derive(Clone, Copy)]
 pub enum Change {
     To(Symbol, Weight),
     Nothing,

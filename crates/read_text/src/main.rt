@@ -2,9 +2,11 @@
 // there: the number and the place of the refusal go to the standard error.
 #![tactic(auto)]
 
-use libc::STDIN_FILENO;
 use printing::{put_front, put_refusal};
 use text_reader::LONGEST_TEXT;
+
+// The stream that a program reads.
+const STDIN_FILENO: i32 = 0;
 
 // Room for a byte more than a text may have, so that a text that is too long is refused as one.
 fn room() -> [u8; LONGEST_TEXT + 1] {

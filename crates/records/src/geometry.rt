@@ -11,7 +11,6 @@ use model::{RuleShape, Symbol};
 // ---- lengths and offsets
 
 // "symbol: arity"
-#[derive(Drop)]
 pub struct SymbolBytes;
 
 impl SymbolBytes {
@@ -21,7 +20,6 @@ impl SymbolBytes {
 }
 
 // "A slot is a tag and four value bytes"
-#[derive(Drop)]
 pub struct SlotBytes;
 
 impl SlotBytes {
@@ -38,7 +36,6 @@ impl SlotBytes {
 }
 
 // "An expression is an operation byte and two slots"
-#[derive(Drop)]
 pub struct ExpressionBytes;
 
 impl ExpressionBytes {
@@ -57,7 +54,6 @@ impl ExpressionBytes {
 }
 
 // "kept / removed head: symbol, four slots"
-#[derive(Drop)]
 pub struct HeadBytes;
 
 impl HeadBytes {
@@ -75,7 +71,6 @@ impl HeadBytes {
 }
 
 // "guard comparison: comparator, two expressions"
-#[derive(Drop)]
 pub struct GuardBytes;
 
 impl GuardBytes {
@@ -89,7 +84,6 @@ impl GuardBytes {
 }
 
 // "body fact: symbol, four expressions"
-#[derive(Drop)]
 pub struct FactBytes;
 
 impl FactBytes {
@@ -111,7 +105,6 @@ impl FactBytes {
 // ---- a goal's facts
 
 // An argument is a number in four bytes.
-#[derive(Drop)]
 pub struct NumberBytes;
 
 impl NumberBytes {
@@ -126,7 +119,6 @@ impl NumberBytes {
 }
 
 // "goal fact: symbol, four arguments"
-#[derive(Drop)]
 pub struct GoalFactBytes;
 
 impl GoalFactBytes {

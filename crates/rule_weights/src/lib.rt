@@ -11,14 +11,14 @@ ghost use Rattle.rule_weights.specs.Views.{Counted};
 use model::{RuleNumber, Symbol};
 
 // What a search for the first rule of its sort finds.
-#[derive(Drop)]
+#[derive(Clone, Copy)]
 pub enum FirstRule {
     At(RuleNumber),
     Nothing,
 }
 
 // What the removed heads of a rule weigh, and what its body weighs.
-#[derive(Drop)]
+#[derive(Clone, Copy)]
 pub struct RuleWeights {
     pub removed: u32,
     pub body: u32,

@@ -2,9 +2,11 @@
 // after 0, one line for each fact stored: identifier, symbol, arguments used.
 #![tactic(auto)]
 
-use libc::STDIN_FILENO;
 use model::{Answer, CallResult, Goal, Table};
 use printing::{put, put_facts, put_result};
+
+// The stream that a program reads.
+const STDIN_FILENO: i32 = 0;
 
 const STEP_LIMIT: u32 = 1000000;
 

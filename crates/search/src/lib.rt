@@ -7,7 +7,7 @@ use model::{FactId, HeadPlace, RuleShape};
 pub mod partners;
 
 // What a search is for: the active fact at a head place, the rule there, and how much of the store and the history is in use.
-#[derive(Drop)]
+#[derive(Clone, Copy)]
 pub struct Quest {
     pub place: HeadPlace,
     pub shape: RuleShape,
@@ -17,7 +17,7 @@ pub struct Quest {
 }
 
 // What a search comes to; the definition's `Found` holds the instance too.
-#[derive(Drop)]
+#[derive(Clone, Copy)]
 pub enum Trial {
     Applies,
     Nothing,

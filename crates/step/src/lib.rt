@@ -8,7 +8,7 @@ pub mod deciding;
 pub mod firing;
 
 // An instance that applies, and that stack and history have room for. What is chosen and bound stays in arrays.
-#[derive(Drop)]
+#[derive(Clone, Copy)]
 pub struct Instance {
     pub rule: RuleNumber,
     pub kept: usize,
@@ -21,7 +21,7 @@ pub struct Instance {
 }
 
 // What the top entry comes to, each with what is to be written.
-#[derive(Drop)]
+#[derive(Clone, Copy)]
 pub enum Decision {
     // the waiting fact
     Activate,

@@ -4,7 +4,7 @@
 pub mod columns;
 
 // The row of an identifier, or none where a firing removed its fact.
-#[derive(Drop)]
+#[derive(Clone, Copy)]
 pub enum Lookup {
     Here(usize),
     Gone,

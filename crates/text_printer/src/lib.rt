@@ -15,7 +15,7 @@ ghost use Rattle.text_printer.specs.PrintText.{print_room, print_text_of, Prints
 use model::{CallResult, Reading, Verdict};
 
 // A printing: its result, and how many bytes were written.
-#[derive(Drop)]
+#[derive(Clone, Copy)]
 pub struct Printing {
     pub result: CallResult,
     pub length: u32,

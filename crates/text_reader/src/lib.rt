@@ -14,7 +14,7 @@ mod lexing;
 mod passing;
 
 // The next token with its place and the place behind it, a byte at which there is none, or the end of the text.
-#[derive(Drop)]
+#[derive(Clone, Copy)]
 pub enum Next {
     Token(Token, usize, usize),
     Strange(usize),
@@ -22,7 +22,7 @@ pub enum Next {
 }
 
 // What a text is: its table's length, or why there is none.
-#[derive(Drop)]
+#[derive(Clone, Copy)]
 pub enum Passed {
     Whole(usize),
     NoToken(usize),
@@ -31,7 +31,7 @@ pub enum Passed {
 }
 
 // The result, and how many bytes of the table were written.
-#[derive(Drop)]
+#[derive(Clone, Copy)]
 pub struct TextRead {
     pub result: CallResult,
     pub length: u32,
@@ -73,7 +73,8 @@ fn write(assembled: &[u8], table: &mut [u8])
     requires { length assembled.now ≤ length table.old }
     ensures { table.new ≡ assembled.now ++ drop (length assembled.now) table.old }
 {
-    bytes::copy(assembled, table);
+    let end = assembled.len();
+    table[..end].copy_from_slice(assembled);
 }
 
 // A text that stands for a table of n bytes: 51, the check of the table, and only then is it written.

@@ -11,7 +11,7 @@ pub mod signs;
 pub mod words;
 
 // Comparators are 0 to 5 and operations 1 to 5, by the numbers of a table; marks have the numbers of `Mark`.
-#[derive(Drop)]
+#[derive(Clone, Copy)]
 pub enum Token {
     Symbol(u8),
     Variable(u8),
@@ -22,13 +22,12 @@ pub enum Token {
 }
 
 // A token and its length.
-#[derive(Drop)]
+#[derive(Clone, Copy)]
 pub enum Found {
     Token(Token, usize),
     Nothing,
 }
 
-#[derive(Drop)]
 pub struct Mark;
 
 impl Mark {
@@ -53,7 +52,6 @@ impl Mark {
     pub const FAIL: u8 = 9;
 }
 
-#[derive(Drop)]
 pub struct Comparator;
 
 impl Comparator {
@@ -70,7 +68,6 @@ impl Comparator {
     pub const AT_LEAST: u8 = 5;
 }
 
-#[derive(Drop)]
 pub struct Operation;
 
 impl Operation {

@@ -10,7 +10,7 @@ use crate::{Found, Token, bytes};
 const MOST: u64 = 2147483648;
 
 // Digits: where they end, and the number they say, or any number above MOST where that is above MOST.
-#[derive(Drop)]
+#[derive(Clone, Copy)]
 pub struct Digits {
     pub end: usize,
     pub value: u64,

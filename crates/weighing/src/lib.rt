@@ -17,7 +17,7 @@ use rule_weights::FirstRule;
 use step_bound::step_bound;
 
 // What a search for the first symbol of its sort finds.
-#[derive(Drop)]
+#[derive(Clone, Copy)]
 pub enum FirstSymbol {
     At(Symbol),
     Nothing,
