@@ -132,6 +132,7 @@ module _ (s : Symbol) where
 -- ---- by index
 
 index-of : {A : Type 0} {x : A} (l : List A) → Memᴰ x l → (i : ℕ) × StandsAt l i x
+index-of {A = A} [] m = elim m [ ]
 index-of (y ∷ l) (Memᴰ.head e) = (0, rw (sym e))
 index-of (y ∷ l) (Memᴰ.tail m) = let r = index-of l m in (suc r.0, r.1)
 

@@ -24,6 +24,7 @@ module _ {A : Type 0} where
     every-get_d (x ∷ xs) (suc i) d u p = every-get_d xs i d u.1 p
 
     pub every-mem : (xs : List A) → every P xs → (x : A) → Memᴰ x xs → P x
+    every-mem [] u x m = elim m [ ]
     every-mem (y ∷ xs) u x (Memᴰ.head e) = subst P (sym e) u.0
     every-mem (y ∷ xs) u x (Memᴰ.tail m) = every-mem xs u.1 x m
 

@@ -95,6 +95,7 @@ module _ (w : Symbol → ℕ) where
   keep-loses : (p : Stored → Bool) (s : Stored) → p s ≡ false → (ss : List Stored) → Memᴰ s ss
       → store_weight (keep p ss) + w s.fact.symbol ≤ store_weight ss
   unfolding store_weight keep
+  keep-loses p s d [] m = elim m [ ]
   keep-loses p s d (r ∷ ss) (Memᴰ.head e) = go (p r) refl (keep-le p ss)
     where
       go : (x : Bool) → p r ≡ x → store_weight (keep p ss) ≤ store_weight ss
@@ -111,6 +112,7 @@ module _ (w : Symbol → ℕ) where
   -- one that is kept is still there
   keep-has : (p : Stored → Bool) (s : Stored) → p s ≡ true → (ss : List Stored) → Memᴰ s ss → Memᴰ s (keep p ss)
   unfolding keep
+  keep-has p s d [] m = elim m [ ]
   keep-has p s d (r ∷ ss) (Memᴰ.head e) = go (p r) (ap p (sym e) ∙ d)
     where
       go : (x : Bool) → x ≡ true → Memᴰ s (elim x [ true ↦ r ∷ keep p ss | false ↦ keep p ss ])
