@@ -51,6 +51,18 @@ def declared(text):
     return names
 
 
+def fields(text):
+    """The names of the fields of records: each stands in snake case, as in the projections that port.py wrote."""
+    names, inside = set(), False
+    for line in text.splitlines():
+        if not line.startswith((" ", "\t")):
+            inside = bool(re.match(r"(pub )?record ", line))
+        m = inside and re.match(r"\s+(?:pub )?([a-z][\w'′-]*) :", line)
+        if m:
+            names.add(m.group(1))
+    return names
+
+
 def spell(text, renamed, dashed, rattle):
     def word(m):
         name = m.group(0).replace("′", "'")
@@ -80,14 +92,16 @@ def spell(text, renamed, dashed, rattle):
 
 def main():
     old = {p: before(p) for p in texts()}
-    own = set()
+    own, of_records = set(), set()
     for text in old.values():
         own |= declared(text)
+        of_records |= fields(text)
     every = set()
     for path, text in old.items():
         every |= set(NAME.findall(text)) if path.endswith(".antt") else set()
     camel = {n: snake(n) for n in every if re.search("[a-z0-9_][A-Z]", n)}
-    dashes = {n.replace("-", "_"): n for n in own if "-" in n}
+    camel.update({n: n.replace("-", "_") for n in of_records if "-" in n})
+    dashes = {n.replace("-", "_"): n for n in own - of_records if "-" in n}
     changed, bad = 0, 0
     for path, was in old.items():
         with open(path, encoding="utf-8") as f:

@@ -193,13 +193,13 @@ same-entry t p k made after e =
 pub record Working (b : Binding) (t : List ℕ) (p n : ℕ) (made : List ℤ) (at left : ℕ) : Type 0 where
   pub lies : ItemsLie t at left
   pub room : Room left made
-  pub none-left : body_entries b (items_from t at left) ≡ none → body_entries b (items_from t p n) ≡ none
-  pub some-left : (after : List ℤ) → ((i : ℕ) → 4 * left ≤ i → get_or after i (pos 0) ≡ get_or made i (pos 0))
+  pub none_left : body_entries b (items_from t at left) ≡ none → body_entries b (items_from t p n) ≡ none
+  pub some_left : (after : List ℤ) → ((i : ℕ) → 4 * left ≤ i → get_or after i (pos 0) ≡ get_or made i (pos 0))
       → body_entries b (items_from t at left) ≡ some (entries_made t at left after)
       → body_entries b (items_from t p n) ≡ some (entries_made t p n after)
 
 pub work-first : (b : Binding) (t : List ℕ) (p n : ℕ) (made : List ℤ) → ItemsLie t p n × Room n made → Working b t p n made p n
-work-first b t p n made h = record { lies = h.0; room = h.1; none-left = λ e. e; some-left = λ after same e. e }
+work-first b t p n made h = record { lies = h.0; room = h.1; none_left = λ e. e; some_left = λ after same e. e }
 
 module _ {b : Binding} {t : List ℕ} {p n : ℕ} {made : List ℤ} {at left : ℕ} (r : Working b t p n made at left) where
   module _ (h : 0 < left) where
@@ -225,8 +225,8 @@ module _ {b : Binding} {t : List ℕ} {p n : ℕ} {made : List ℤ} {at left : �
       work-more y {next} q = record {
         lies = rest-lies t at left r.lies h q;
         room = record { few = omega (arith, r.room.few); whole = w.whole };
-        none-left = λ e. r.none_left (whole-is ∙ ap (cons_entry (some (entry_made t at (left - 1) after))) e);
-        some-left = λ last same e. r.some_left last (λ i l. same i (omega arith) ∙ w.above i (omega arith))
+        none_left = λ e. r.none_left (whole-is ∙ ap (cons_entry (some (entry_made t at (left - 1) after))) e);
+        some_left = λ last same e. r.some_left last (λ i l. same i (omega arith) ∙ w.above i (omega arith))
             (whole-is ∙ ap (cons_entry (some (entry_made t at (left - 1) after))) e
             ∙ ap (λ (x : Entry). some (x ∷ entries_made t next (left - 1) last)) (same-entry t at (left - 1) after last same)
             ∙ ap (λ (x : ℕ). some (entry_made t at (left - 1) last ∷ entries_made t x (left - 1) last)) q
