@@ -1,0 +1,13 @@
+-- `later_bad` meets its contract.
+use borrow.Author.Rules.{rules}
+use borrow.Author.Tests.{le-leb, lt-leb}
+use Rattle.model.specs.Goal.{later_bad}
+use Rattle.goal.proofs.later_bad.Goals as goal
+
+pub returns-then-arity-place : goal.returns-then-arity-place
+unfolding later_bad
+returns-then-arity-place c = rw (le-leb _ _ c.if-arity-place.true, ← c.u32_within.ensures)
+
+pub returns : goal.returns
+unfolding later_bad
+returns c = rw (lt-leb _ _ c.if-arity-place.false)

@@ -1,0 +1,16 @@
+-- `history::recorded` meets its contract: what is left of the entries answers for the whole.
+use mathlib.Core.Path.{◌≡◌, refl, sym, ◌∙◌}
+use Prim.Native.Nat.{ℕ, ◌+◌, ◌-◌, ◌≤◌, ◌<◌}
+use lib.ListN.{drop, length}
+use Rattle.model.specs.Search.{in_history}
+use borrow.Author.Rules.{rules}
+use Rattle.history.proofs.Remembered.{past_from, past-start, past-hit, past-miss, past-none}
+use Rattle.history.specs.Views.{fired_at, past_of}
+use Rattle.history.proofs.recorded.Given as goal
+
+abbrev pub invariant-loop-i : goal.invariant-loop-i
+invariant-loop-i l =
+    in_history (fired_at l.e) (past_from l.i l.noted l.past) ≡ in_history (fired_at l.e) (past_of l.noted l.past)
+
+abbrev pub decreases-loop-i : goal.decreases-loop-i
+decreases-loop-i l = l.noted - l.i
