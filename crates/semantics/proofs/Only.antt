@@ -347,13 +347,13 @@ module _ (t : Table) (σ : State) where
     two-above u v = omega (arith, u.above, v.stack, stack-as-long u.τ v.τ u.fires v.fires)
 
     stops-one : (n p n' p' : ℕ) → Stops t σ n p → Stops t σ n' p' → Alike n p n' p'
-    stops-one n p n' p' (undefined u) (undefined v) = (refl, rw (same-place t u.tried v.tried))
+    stops-one n p n' p' (undefined u) (undefined v) = (refl, ap (λ (z : HeadPlace). z.rule.0) (same-place t u.tried v.tried))
     stops-one n p n' p' (undefined u) (no_body v) = absurd (undefined-not-true u (body-tries v))
     stops-one n p n' p' (undefined u) (store_full v) = absurd (full-not-tries Unknown v (undefined-tries u))
     stops-one n p n' p' (undefined u) (stack_above v) = absurd (undefined-not-true u (fires-tries v.fires))
     stops-one n p n' p' (undefined u) (history_above v) = absurd (undefined-not-true u (fires-tries v.fires))
     stops-one n p n' p' (no_body u) (undefined v) = absurd (undefined-not-true v (body-tries u))
-    stops-one n p n' p' (no_body u) (no_body v) = (refl, rw (same-place t u.tried v.tried))
+    stops-one n p n' p' (no_body u) (no_body v) = (refl, ap (λ (z : HeadPlace). z.rule.0) (same-place t u.tried v.tried))
     stops-one n p n' p' (no_body u) (store_full v) = absurd (full-not-tries True v (body-tries u))
     stops-one n p n' p' (no_body u) (stack_above v) = absurd (body-not-fires v.τ u v.fires)
     stops-one n p n' p' (no_body u) (history_above v) = absurd (body-not-fires v.τ u v.fires)

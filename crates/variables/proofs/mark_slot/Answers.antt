@@ -3,8 +3,8 @@ use borrow.Author.Rules.{rules}
 use Rattle.variables.proofs.Marks.{variable-small, unused-marked, constant-marked, variable-marked, bad-marked}
 use Rattle.variables.proofs.mark_slot.Goals as goal
 
-pub overflow_cast-named : goal.overflow_cast-named
-overflow_cast-named c = search variable-small
+pub bounds-named-v : goal.bounds-named-v
+bounds-named-v c = search variable-small
 
 pub returns-in-Unused : goal.returns-in-Unused
 returns-in-Unused c = search unused-marked
