@@ -1,12 +1,12 @@
 -- What matching comes to, slot by slot: the definition's clauses, in the form in which the code's tests and stores give them.
 use mathlib.Core.Path.{◌≡◌, refl, sym, ◌∙◌}
-use mathlib.Core.Bool.{Bool, true, false, not}
+use mathlib.Core.Bool.{Bool, true, false}
 use mathlib.Core.Option.{Option, none, some}
 use mathlib.Core.List.{List}
 use Prim.Native.Nat.{ℕ, ◌+◌, ◌*◌, ◌<◌, ◌≤◌}
 use lib.IntN.{ℤ, pos}
 use lib.ListN.{get_or, set}
-use borrow.Author.Tests.{eq-eqb, ne_eqb, lt-ltb, le-ltb, not-true, not-false}
+use borrow.Author.Tests.{eq-eqb, ne_eqb, lt-ltb, le-ltb}
 use Rattle.numbers.specs.Numbers.{equal}
 use Rattle.model.specs.declared.Binding.{Binding}
 use Rattle.model.specs.Matching.{bound_if, with_variable, match_variable, match_slot, and_slot, match_slots, match_head}
@@ -75,14 +75,14 @@ module _ (t : List ℕ) (p : ℕ) (a : ℤ) (values : List ℤ) (bound : List Bo
 -- ---- a head: its slots in turn, as long as each matches
 
 -- the binding after the slots so far
-matched : (ok : Bool) (values : List ℤ) (bound : List Bool) {m : Option Binding} → bound_as ok values bound ≡ m → not ok ≡ false
+matched : (ok : Bool) (values : List ℤ) (bound : List Bool) {m : Option Binding} → bound_as ok values bound ≡ m → ok ≡ true
     → m ≡ some (binding_of values bound)
 unfolding bound_as
-matched ok values bound e t = sym e ∙ rw (not-false ok t) refl
+matched ok values bound e t = sym e ∙ rw t refl
 
-missed : (ok : Bool) (values : List ℤ) (bound : List Bool) {m : Option Binding} → bound_as ok values bound ≡ m → not ok ≡ true → m ≡ none
+missed : (ok : Bool) (values : List ℤ) (bound : List Bool) {m : Option Binding} → bound_as ok values bound ≡ m → ok ≡ false → m ≡ none
 unfolding bound_as
-missed ok values bound e t = sym e ∙ rw (not-true ok t) refl
+missed ok values bound e t = sym e ∙ rw t refl
 
 module _ (t : List ℕ) (p : ℕ) (symbols : List ℕ) (args : List ℤ) (i : ℕ) (b : Binding) where
   abbrev head_matched : Option Binding
@@ -112,26 +112,26 @@ module _ (t : List ℕ) (p : ℕ) (symbols : List ℕ) (args : List ℤ) (i : �
 
   module _ (e : get_or t (p + 1) 0 ≡ get_or symbols i 0) (k0 : Bool) (z0 : List ℤ) (y0 : List Bool) (a0 : ℤ)
       (m0 : bound_as k0 z0 y0 ≡ match_slot (slot_at t (p + 2)) a0 b) (e0 : a0 ≡ first) where
-    after-0 : not k0 ≡ false → match_slot (slot_at t (p + 2)) first b ≡ some (binding_of z0 y0)
+    after-0 : k0 ≡ true → match_slot (slot_at t (p + 2)) first b ≡ some (binding_of z0 y0)
     after-0 t0 = rw (← e0) (matched k0 z0 y0 m0 t0)
 
-    pub head-miss-0 : not k0 ≡ true → (z : List ℤ) (y : List Bool) → bound_as false z y ≡ head_matched
+    pub head-miss-0 : k0 ≡ false → (z : List ℤ) (y : List Bool) → bound_as false z y ≡ head_matched
     unfolding bound_as and_slot
     head-miss-0 t0 z y = rw (same-symbol e, ← e0, missed k0 z0 y0 m0 t0)
 
-    module _ (t0 : not k0 ≡ false) (k1 : Bool) (z1 : List ℤ) (y1 : List Bool) (a1 : ℤ)
+    module _ (t0 : k0 ≡ true) (k1 : Bool) (z1 : List ℤ) (y1 : List Bool) (a1 : ℤ)
         (m1 : bound_as k1 z1 y1 ≡ match_slot (slot_at t (p + 7)) a1 (binding_of z0 y0)) (e1 : a1 ≡ argument 1) where
-      pub head-miss-1 : not k1 ≡ true → (z : List ℤ) (y : List Bool) → bound_as false z y ≡ head_matched
+      pub head-miss-1 : k1 ≡ false → (z : List ℤ) (y : List Bool) → bound_as false z y ≡ head_matched
       unfolding bound_as and_slot
       head-miss-1 n z y = rw (same-symbol e, after-0 t0, ← e1, missed k1 z1 y1 m1 n)
 
-      module _ (t1 : not k1 ≡ false) (k2 : Bool) (z2 : List ℤ) (y2 : List Bool) (a2 : ℤ)
+      module _ (t1 : k1 ≡ true) (k2 : Bool) (z2 : List ℤ) (y2 : List Bool) (a2 : ℤ)
           (m2 : bound_as k2 z2 y2 ≡ match_slot (slot_at t (p + 12)) a2 (binding_of z1 y1)) (e2 : a2 ≡ argument 2) where
-        pub head-miss-2 : not k2 ≡ true → (z : List ℤ) (y : List Bool) → bound_as false z y ≡ head_matched
+        pub head-miss-2 : k2 ≡ false → (z : List ℤ) (y : List Bool) → bound_as false z y ≡ head_matched
         unfolding bound_as and_slot
         head-miss-2 n z y = rw (same-symbol e, after-0 t0, ← e1, matched k1 z1 y1 m1 t1, ← e2, missed k2 z2 y2 m2 n)
 
-        pub head-last : not k2 ≡ false → {a3 : ℤ} {m : Option Binding} → m ≡ match_slot (slot_at t (p + 17)) a3 (binding_of z2 y2) → a3 ≡ argument 3
+        pub head-last : k2 ≡ true → {a3 : ℤ} {m : Option Binding} → m ≡ match_slot (slot_at t (p + 17)) a3 (binding_of z2 y2) → a3 ≡ argument 3
             → m ≡ head_matched
         unfolding and_slot
         head-last t2 m3 e3 = rw (same-symbol e, after-0 t0, ← e1, matched k1 z1 y1 m1 t1, ← e2, matched k2 z2 y2 m2 t2, ← e3) m3
