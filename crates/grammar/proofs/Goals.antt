@@ -94,13 +94,25 @@ later-bad arity place value = go (ltb place arity) refl
     go true e = rw (lt-leb arity place (ltb-true place arity e))
     go false e = rw (le-leb arity place (ltb-false place arity e))
 
+-- the four words from a place on, each four behind the last
+four-words : (g : List ℕ) (p : ℕ) → rows_at (u32_at g) 4 p 4 ≡ u32_at g p ∷ u32_at g (p + 4) ∷ u32_at g (p + 8) ∷ u32_at g (p + 12) ∷ []
+four-words g p =
+    let a : p + 4 + 4 ≡ p + 8 = omega arith in
+    let b : p + 8 + 4 ≡ p + 12 = omega arith in
+    rw (a, b)
+
 later-places : (arity : ℕ) (g : List ℕ) (p : ℕ) → later_places_bad arity g p ≡ used_bad argument_bad arity (rows_at (u32_at g) 4 p 4)
 unfolding later_places_bad
 later-places arity g p =
-    let a : p + 4 + 4 ≡ p + 8 = omega arith in
-    let b : p + 8 + 4 ≡ p + 12 = omega arith in
-    rw (a, b, later-bad arity 0 (u32_at g p), later-bad arity 1 (u32_at g (p + 4)), later-bad arity 2 (u32_at g (p + 8)), later-bad arity 3 (u32_at g (p + 12)))
-    (four-used argument_bad arity (u32_at g p) (u32_at g (p + 4)) (u32_at g (p + 8)) (u32_at g (p + 12)))
+    let tests : later_places_bad arity g p ≡ used_bad argument_bad arity (u32_at g p ∷ u32_at g (p + 4) ∷ u32_at g (p + 8) ∷ u32_at g (p + 12) ∷ []) =
+    rw (
+      later-bad arity 0 (u32_at g p),
+      later-bad arity 1 (u32_at g (p + 4)),
+      later-bad arity 2 (u32_at g (p + 8)),
+      later-bad arity 3 (u32_at g (p + 12)),
+    )
+    (four-used argument_bad arity (u32_at g p) (u32_at g (p + 4)) (u32_at g (p + 8)) (u32_at g (p + 12))) in
+    tests ∙ ap (used_bad argument_bad arity) (sym (four-words g p))
 
 -- ---- one fact
 

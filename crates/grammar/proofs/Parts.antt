@@ -18,7 +18,7 @@ use Rattle.model.specs.declared.Expression.{Expression}
 use Rattle.model.specs.Slots.{slot_at, expression_at}
 use Rattle.model.specs.Fields.{place_bad, arity_at, places_bad, expression_bad, arguments_bad, head_bad, guard_bad, body_fact_bad}
 use Rattle.model.specs.Variables.{is_variable, head_has, in_heads, strange_slot, strange_expression, strange_guard, strange_fact}
-use Rattle.model.specs.Table.{Head, Guard, body_fact, body_fail, symbol_at, head_at, guard_at, body_fact_at, is_fact, item_at, heads_from, guards_from}
+use Rattle.model.specs.Table.{Head, Guard, body_fact, symbol_at, head_at, guard_at, body_fact_at, is_fact, item_at, heads_from, guards_from}
 use Rattle.model.proofs.Every.{every, every-weaken}
 use Rattle.model.proofs.Lists.{or-false-left, or-false-right, or-both, every-get_d}
 use Rattle.model.proofs.Ranges.{AreBytes}

@@ -234,6 +234,8 @@ term-is v (variable w) e = ap variable (sym (eqb-true w v e))
 module _ (v : ℕ) where
   slots-have : (n : ℕ) (xs : List Term) → length xs ≤ n → Memᴰ (variable v) xs → slots_have v (laid_places slot_of Unused n xs) ≡ true
   unfolding laid_places
+  slots-have zero [] l m = elim m [ ]
+  slots-have (suc n) [] l m = elim m [ ]
   slots-have zero (x ∷ xs) l (Memᴰ.head e) = absurd (omega arith)
   slots-have zero (x ∷ xs) l (Memᴰ.tail m) = absurd (omega arith)
   slots-have (suc n) (x ∷ xs) l (Memᴰ.head e) = or-true-left (is_variable (slot_of x) v) _ (term-not v x e)

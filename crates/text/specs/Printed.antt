@@ -1,6 +1,6 @@
 -- A tree as text, laid out for people: a declaration a line, a rule a line, a space behind each comma and on both sides of arrows, bars, comparators
 -- and operations.
-use Rattle.std.specs.Prelude.{ℕ, zero, suc, ◌+◌, ◌/◌, ◌%◌, cond, List, [], ◌∷◌, ◌++◌, ltb, ℤ, pos, negsuc}
+use Rattle.std.specs.Prelude.{ℕ, zero, suc, ◌+◌, ◌/◌, ◌%◌, cond, List, [], ◌∷◌, ◌++◌, ltb, pos, negsuc}
 use Rattle.grammar.specs.Tree.{Term, constant, variable, Operation, sum, difference, product, quotient, remainder, Comparator, equal, unequal, less, at_most}
 use Rattle.grammar.specs.Tree.{greater, at_least, TableTree}
 use Rattle.text.specs.Token.{Token, symbol, slot, compares, operates, mark, Mark, backslash, simplifies, propagates, bar, opens, closes, comma, stop}

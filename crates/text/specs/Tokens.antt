@@ -1,6 +1,6 @@
 -- The tokens of a text, each with its place, its first byte. "49 no token (its byte)": anywhere in the text, so that a text has all its tokens or
 -- has none there.
-use Rattle.std.specs.Prelude.{ℕ, zero, suc, ◌+◌, ◌-◌, Bool, true, false, cond, List, [], ◌∷◌}
+use Rattle.std.specs.Prelude.{ℕ, zero, suc, ◌-◌, Bool, false, cond, List, [], ◌∷◌}
 use Rattle.text.specs.Token.{Token, is_slot}
 use Rattle.text.specs.Spelling.{Found, found, nothing, is_blank, token_at}
 
