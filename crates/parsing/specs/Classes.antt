@@ -1,9 +1,9 @@
 -- What is asked of the next token, and what a token that is of that class says.
-use Rattle.std.specs.Prelude.{ℕ, Bool, true, false, cond, leb, eqb, ℤ, pos, negsuc}
+use Rattle.std.specs.Prelude.{ℕ, cond, leb, eqb, pos, negsuc}
 use Rattle.std.proofs.Math.Option.{Option, none, some}
 use Rattle.grammar.specs.Tree.{Term, constant, variable, Operation, quotient, operation_number, Comparator}
-use Rattle.text.specs.Token.{Token, symbol, slot, compares, operates, mark, Mark, backslash, simplifies, propagates, bar, opens, closes, comma, stop}
-use Rattle.text.specs.Token.{true_word, fail_word, mark_number}
+use Rattle.text.specs.Token.{Token, symbol, slot, compares, operates, mark, Mark}
+use Rattle.text.specs.Token.{mark_number}
 
 pub data Class : Type 0 where
   a_symbol a_slot a_comparator an_operation : Class

@@ -1,7 +1,7 @@
 -- Which token may come next, and how far the text is read with it.
-use Rattle.std.specs.Prelude.{ℕ, Bool, true, false, cond, List, [], ◌∷◌, ◌++◌, ltb, eqb, length}
+use Rattle.std.specs.Prelude.{ℕ, Bool, cond, List, [], ◌∷◌, ◌++◌, ltb, eqb, length}
 use Rattle.std.proofs.Math.Option.{Option, none, some}
-use Rattle.grammar.specs.Tree.{Term, Formula, alone, applied, HeadTree, ItemTree, fact, fail, TableTree}
+use Rattle.grammar.specs.Tree.{Formula, alone, applied, HeadTree, ItemTree, fact, fail}
 use Rattle.text.specs.Token.{Token, Mark, backslash, simplifies, propagates, bar, opens, closes, comma, stop, true_word, fail_word}
 use Rattle.parsing.specs.Classes.{Class, a_symbol, a_slot, a_comparator, an_operation, slash, an_arity, the, Said, said}
 use Rattle.parsing.specs.Progress.{Group, first, second, Guarded, Side, left_of, right_of, argument_of, Progress, declared, named, slashed, sized, ruled}

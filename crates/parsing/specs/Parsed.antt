@@ -1,10 +1,9 @@
 -- What the tokens of a text come to: the tree of the text, or why there is none.
-use Rattle.std.specs.Prelude.{ℕ, List, [], ◌∷◌, map, reverse}
+use Rattle.std.specs.Prelude.{ℕ, [], map, reverse}
 use Rattle.std.proofs.Math.Option.{Option, none, some}
-use Rattle.grammar.specs.Tree.{HeadTree, GuardTree, ItemTree, fact, fail, RuleTree, TableTree}
-use Rattle.text.specs.Token.{Token}
+use Rattle.grammar.specs.Tree.{HeadTree, ItemTree, fact, fail, RuleTree, TableTree}
 use Rattle.text.specs.Tokens.{Lexed, end, no_token, next}
-use Rattle.parsing.specs.Progress.{Side, Progress, declared, named, slashed, sized, ruled, head_named, head_wants, head_slot, head_done, head_next}
+use Rattle.parsing.specs.Progress.{Progress, declared, named, slashed, sized, ruled, head_named, head_wants, head_slot, head_done, head_next}
 use Rattle.parsing.specs.Progress.{headed, wants, term, operated, formed, body, emptied, item_named, item_done, item_next, table_with, head_with}
 use Rattle.parsing.specs.Edges.{step}
 

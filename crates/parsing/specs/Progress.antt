@@ -1,6 +1,6 @@
 -- How far a text is read: the trees that its tokens so far are. Here every list has the one that was read last at its front, also the lists inside a
 -- tree; `forward` (Parsed) turns them round.
-use Rattle.std.specs.Prelude.{ℕ, List, [], ◌∷◌}
+use Rattle.std.specs.Prelude.{ℕ, List, ◌∷◌}
 use Rattle.grammar.specs.Tree.{Term, Operation, Formula, Comparator, HeadTree, GuardTree, ItemTree, RuleTree, TableTree}
 
 -- which heads of a rule are read, behind the table w: the first ones, or those behind "\" and the kept heads k ∷ ks
