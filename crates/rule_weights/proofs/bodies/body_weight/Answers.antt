@@ -1,21 +1,11 @@
 -- `bodies::body_weight` meets its contract: each turn weighs one item.
-use Prim.Native.Nat.{ℕ}
-use mathlib.Core.List.{List}
 use native.Mathlib.Omega.{arith}
 use borrow.Author.Rules.{rules}
-use Rattle.model.specs.Table.{items_from}
-use Rattle.model.specs.Weights.{weight_in, body_weight}
-use Rattle.rule_weights.proofs.Parts.{ItemsLeft, item-in, item-ends, items-ended, body-begins, body-none, fact-weighed, fail-weighed}
+use Rattle.rule_weights.proofs.Parts.{item-in, item-ends, items-ended, body-begins, body-none, fact-weighed, fail-weighed}
 use Rattle.rule_weights.proofs.bodies.body_weight.Goals as goal
-
-abbrev body_left : List ℕ → List ℕ → ℕ → ℕ → ℕ
-body_left table weights p n = body_weight (weight_in weights) (items_from table p n)
 
 pub loop-left-init : goal.loop-left-init
 loop-left-init c = search body-begins
-
-pub overflow_sub-left : goal.overflow_sub-left
-overflow_sub-left c = omega arith
 
 pub behind_item-p-requires : goal.behind_item-p-requires
 behind_item-p-requires c = search (item-in, item-ends)
@@ -26,17 +16,8 @@ is_fact-requires c = search item-in
 pub overflow_add-here : goal.overflow_add-here
 overflow_add-here c = omega (arith, item-in c.loop-left.invariant c.loop-left-test.true)
 
-pub overflow_add-sum : goal.overflow_add-sum
-overflow_add-sum c = omega arith
-
-pub loop-left-smaller-then-is_fact : goal.loop-left-smaller-then-is_fact
-loop-left-smaller-then-is_fact c = omega arith
-
 pub loop-left-preserved-then-is_fact : goal.loop-left-preserved-then-is_fact
 loop-left-preserved-then-is_fact c = search (fact-weighed, rules)
-
-pub loop-left-smaller : goal.loop-left-smaller
-loop-left-smaller c = omega arith
 
 pub loop-left-preserved : goal.loop-left-preserved
 loop-left-preserved c = search fail-weighed

@@ -1,12 +1,13 @@
 -- `bodies::body_weight` meets its contract: each turn weighs one item.
 use Prim.Native.Nat.{ℕ}
 use mathlib.Core.List.{List}
-use native.Mathlib.Omega.{arith}
-use borrow.Author.Rules.{rules}
 use Rattle.model.specs.Table.{items_from}
 use Rattle.model.specs.Weights.{weight_in, body_weight}
-use Rattle.rule_weights.proofs.Parts.{ItemsLeft, item-in, item-ends, items-ended, body-begins, body-none, fact-weighed, fail-weighed}
+use Rattle.rule_weights.proofs.Parts.{ItemsLeft}
 use Rattle.rule_weights.proofs.bodies.body_weight.Given as goal
+
+abbrev pub body_left : List ℕ → List ℕ → ℕ → ℕ → ℕ
+body_left table weights p n = body_weight (weight_in weights) (items_from table p n)
 
 abbrev pub invariant-loop-left : goal.invariant-loop-left
 invariant-loop-left l =

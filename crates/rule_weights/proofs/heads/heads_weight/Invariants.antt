@@ -1,10 +1,8 @@
 -- `heads::heads_weight` meets its contract: each turn weighs one head.
-use native.Mathlib.Omega.{arith}
-use borrow.Author.Rules.{rules}
 use lib.ListN.{length}
 use Rattle.model.specs.Table.{heads_from}
 use Rattle.model.specs.Weights.{weight_in, heads_weight}
-use Rattle.rule_weights.proofs.Parts.{Left, ended, heads-begin, heads-none, head-weighed}
+use Rattle.rule_weights.proofs.Parts.{Left}
 use Rattle.rule_weights.proofs.heads.heads_weight.Given as goal
 
 abbrev pub invariant-loop-left : goal.invariant-loop-left

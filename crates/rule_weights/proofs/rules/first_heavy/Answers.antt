@@ -1,9 +1,7 @@
 -- `rules::first_heavy` meets its contract. The invariant: the rules that are left answer for all of them.
 use native.Mathlib.Omega.{arith}
-use borrow.Author.Rules.{rules}
-use Rattle.model.specs.Weights.{weight_in}
 use Rattle.rule_weights.specs.Views.{first_rule}
-use Rattle.rule_weights.proofs.Turns.{lies, HeavyLeft, heavy-begins, heavy-here, heavy-later, heavy-never}
+use Rattle.rule_weights.proofs.Turns.{lies, heavy-begins, heavy-here, heavy-later, heavy-never}
 use Rattle.rule_weights.proofs.rules.first_heavy.Goals as goal
 
 pub loop-left-init : goal.loop-left-init

@@ -1,5 +1,4 @@
 -- `rules::loses_weight` meets its contract.
-use borrow.Author.Rules.{rules}
 use Rattle.rule_weights.proofs.Turns.{rule-loses}
 use Rattle.rule_weights.proofs.rules.loses_weight.Goals as goal
 

@@ -1,6 +1,5 @@
 -- `rules::rule_weights` meets its contract.
 use native.Mathlib.Omega.{arith}
-use borrow.Author.Rules.{rules}
 use Rattle.rule_weights.proofs.Turns.{body-lies, rule-weighs}
 use Rattle.rule_weights.proofs.rules.rule_weights.Goals as goal
 
