@@ -1,0 +1,13 @@
+-- `fields::body_fact_bad` meets its contract.
+use borrow.Author.Rules.{rules}
+use Rattle.records.proofs.Tests.{told}
+use Rattle.model.specs.Fields.{body_fact_bad}
+use Rattle.fields.proofs.body_fact_bad.Goals as goal
+
+pub returns-then-symbols-symbol : goal.returns-then-symbols-symbol
+unfolding body_fact_bad
+returns-then-symbols-symbol c = search told
+
+pub returns : goal.returns
+unfolding body_fact_bad
+returns c = rw (← c.arity_at.ensures) (search told)

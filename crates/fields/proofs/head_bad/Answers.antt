@@ -1,0 +1,13 @@
+-- `fields::head_bad` meets its contract.
+use borrow.Author.Rules.{rules}
+use Rattle.records.proofs.Tests.{told}
+use Rattle.model.specs.Fields.{head_bad}
+use Rattle.fields.proofs.head_bad.Goals as goal
+
+pub returns-then-symbols-symbol : goal.returns-then-symbols-symbol
+unfolding head_bad
+returns-then-symbols-symbol c = search told
+
+pub returns : goal.returns
+unfolding head_bad
+returns c = rw (← c.arity_at.ensures) (search told)
