@@ -63,7 +63,8 @@ raised ws r = raised-by ws (lack ws r) r.removed
 
 module _ (ws t : List ℕ) where
   raise-head : (d p n : ℕ) → 0 < n
-      → raise_by ws d (heads_from t p n) ≡ cond (leb (get_or ws (get_or t (p + 1) 0) 1 + d) 255) (to (get_or t (p + 1) 0) (get_or ws (get_or t (p + 1) 0) 1 + d)) Nothing
+      → raise_by ws d (heads_from t p n)
+      ≡ cond (leb (get_or ws (get_or t (p + 1) 0) 1 + d) 255) (to (get_or t (p + 1) 0) (get_or ws (get_or t (p + 1) 0) 1 + d)) Nothing
   unfolding raise_by head_at
   raise-head d p n h = rw (heads-first t p n h)
 
