@@ -1,0 +1,6 @@
+-- `first_scan` meets its contract.
+use borrow.Author.Rules.{rules}
+use Rattle.table.proofs.first_scan.Goals as goal
+
+pub returns : goal.returns
+returns c = rw c.no_shape-shape.ensures
