@@ -4,11 +4,11 @@ use Prim.Native.Nat.{ℕ, zero, suc, ◌+◌, ◌-◌, ◌*◌, ◌<◌, ◌≤�
 use mathlib.Core.Path.{◌≡◌, refl, sym, ap, subst, ◌∙◌}
 use mathlib.Core.Bool.{Bool, true, false}
 use mathlib.Core.Option.{Option}
-use mathlib.Core.List.{List, [], ◌∷◌, ◌++◌, append_assoc, append-nil}
+use mathlib.Core.List.{List, ◌∷◌, ◌++◌, append_assoc, append-nil}
 use native.Mathlib.Omega.{arith}
 use native.Mathlib.Numerals.{add-one}
 use lib.Dec.{eqb}
-use lib.ListN.{length, get_or, take, drop, get_elem?, drop_of_length-le}
+use lib.ListN.{length, get_or, take, get_elem?, drop_of_length-le}
 use lib.Seq.{drop-cons}
 use mir.Syntax.{w8}
 use mir.Val.{Fits}
@@ -18,7 +18,7 @@ use Rattle.model.specs.declared.RuleShape.{RuleShape}
 use Rattle.model.specs.declared.HeadPlace.{HeadPlace}
 use Rattle.model.specs.Limits.{most_rules}
 use Rattle.model.specs.Reading.{no_shape, read_of}
-use Rattle.model.specs.Table.{no_rule, heads, head_at, heads_from, heads_start, table_of, rule_of, rule_at, place_if, places_in, places_from, places}
+use Rattle.model.specs.Table.{no_rule, head_at, heads_from, heads_start, table_of, rule_of, rule_at, place_if, places_in, places_from, places}
 use Rattle.model.proofs.Good.{GoodRule, GoodTable, good-table}
 use Rattle.model.proofs.Decoded.{rule-heads, rules-length, rule-at}
 use Rattle.records.proofs.PartsLie.{heads-in}
