@@ -1,8 +1,8 @@
 -- Which move a token makes, by the class of its word: a token of another class passes a move over, and one of its class makes it.
-use Prim.Native.Nat.{ℕ, zero, suc, ◌+◌, ◌*◌, ◌≤◌, ◌<◌}
+use Prim.Native.Nat.{ℕ, suc, ◌+◌, ◌*◌, ◌≤◌, ◌<◌}
 use mathlib.Core.Path.{◌≡◌, refl, sym, ap, ◌∙◌, subst}
 use mathlib.Core.Bool.{Bool, true, false, cond, ◌&&◌}
-use mathlib.Core.Option.{Option, none, some}
+use mathlib.Core.Option.{none, some}
 use mathlib.Core.List.{List, [], ◌∷◌, ◌++◌}
 use native.Mathlib.Omega.{arith}
 use lib.Dec.{eqb, leb, ltb}
@@ -10,12 +10,12 @@ use lib.IntN.{ℤ, pos, negsuc}
 use lib.ListN.{set}
 use mir.Syntax.{w32}
 use mir.Val.{SFits}
-use borrow.Author.Tests.{eq-eqb, ne_eqb, lt-ltb, le-ltb, le-leb, lt-leb, leb-true, leb-false, eqb-true, eqb-false}
+use borrow.Author.Tests.{eq-eqb, ne_eqb, lt-ltb, le-ltb, le-leb, lt-leb, leb-true, eqb-true, eqb-false}
 use Rattle.wire.specs.Wire.{bytes4, bits_of}
 use Rattle.grammar.specs.Tree.{Term, constant, variable, Comparator, comparator_number, Operation, operation_number}
-use Rattle.grammar.specs.Encode.{term_bytes, symbol_bytes}
+use Rattle.grammar.specs.Encode.{term_bytes}
 use Rattle.text.specs.Token.{Token, symbol, slot, compares, operates, mark, Mark}
-use Rattle.parsing.specs.Classes.{Class, a_symbol, a_slot, a_comparator, an_operation, slash, an_arity, the, Said, said, symbol_said, slot_said, comparator_said}
+use Rattle.parsing.specs.Classes.{Class, a_symbol, a_slot, a_comparator, an_operation, an_arity, the, Said, said, symbol_said, slot_said, comparator_said}
 use Rattle.parsing.specs.Classes.{operation_said, slash_said, arity_said, arity_of, mark_said}
 use Rattle.text.specs.Token.{mark_number}
 use Rattle.assembly.specs.declared.Assembly.{Assembly}
@@ -27,7 +27,7 @@ use Rattle.assembly.specs.declared.Word.{Word}
 use Rattle.assembly.specs.Pieces.{Piece, piece, lay, lay_all}
 use Rattle.assembly.specs.Moves.{here, Move, move, on, only, by, along, moving, behind_symbol, rule_begins}
 use Rattle.assembly.specs.Words.{TermIs, WordIs}
-use Rattle.assembly.specs.Advances.{Advanced, Goes, Stays, GroupNear, GroupIn, Begins, NamedGoes, slot_class, slash_class}
+use Rattle.assembly.specs.Advances.{Goes, Stays, GroupNear, GroupIn, Begins, NamedGoes, slot_class, slash_class}
 
 not-so : true ≡ false → ⊥
 not-so e = let z : ◌≡◌ {A = ℕ} 0 1 = ap (λ (b : Bool). cond b 0 1) e in absurd (omega arith)

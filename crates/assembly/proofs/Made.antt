@@ -1,19 +1,16 @@
 -- A token as numbers is that token, case by case.
-use Prim.Native.Nat.{ℕ, zero, suc, ◌+◌, ◌≤◌, ◌<◌}
-use mathlib.Core.Path.{◌≡◌, refl, sym, ap, ◌∙◌, subst}
-use mathlib.Core.List.{List, [], ◌∷◌}
+use Prim.Native.Nat.{ℕ, zero, suc, ◌+◌, ◌≤◌}
+use mathlib.Core.Path.{◌≡◌, refl, sym, ap, subst}
 use native.Mathlib.Omega.{arith}
 use lib.IntN.{ℤ}
-use lib.ListN.{get_or}
 use mir.Syntax.{w32}
 use mir.Val.{SFits}
 use Rattle.wire.specs.Wire.{bits_of}
-use Rattle.grammar.specs.Tree.{comparator_number, operation_number}
-use Rattle.grammar.specs.Layout.{comparator_of, operation_of}
+use Rattle.grammar.specs.Tree.{operation_number}
+use Rattle.grammar.specs.Layout.{operation_of}
 use Rattle.grammar.proofs.Tests.{comparator-numbered, operation-numbered}
-use Rattle.text.specs.Token.{mark_number}
 use Rattle.tokens.proofs.Numbered.{mark-back}
-use Rattle.tokens.specs.Views.{token_of, mark_of, Sane}
+use Rattle.tokens.specs.Views.{token_of, Sane}
 use Rattle.tokens.specs.declared.Token.{Token}
 use Rattle.tokens.specs.declared.Token.TheVariants.{Symbol, Variable, Constant, Compares, Operates, Mark}
 use Rattle.assembly.specs.declared.Word.{Word}

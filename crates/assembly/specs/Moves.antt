@@ -5,7 +5,7 @@ use Rattle.grammar.specs.Tree.{comparator_number, operation_number}
 use Rattle.grammar.specs.Encode.{term_bytes, symbol_bytes}
 use Rattle.text.specs.Token as text
 use Rattle.text.specs.Token.{Mark, backslash, simplifies, propagates, bar, opens, closes, comma, stop, true_word, fail_word}
-use Rattle.parsing.specs.Classes.{Class, a_symbol, a_slot, a_comparator, an_operation, slash, an_arity, the, Said, said, slash_said}
+use Rattle.parsing.specs.Classes.{Class, a_symbol, a_slot, a_comparator, an_operation, an_arity, the, Said, said, slash_said}
 use Rattle.assembly.specs.declared.Group.{Group}
 use Rattle.assembly.specs.declared.Group.TheVariants.{First, Second}
 use Rattle.assembly.specs.declared.Side.{Side}

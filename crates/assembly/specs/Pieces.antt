@@ -1,5 +1,5 @@
 -- Bytes that are laid into others, from a place on. Past the end nothing is laid.
-use Rattle.std.specs.Prelude.{ℕ, zero, suc, ◌+◌, List, [], ◌∷◌, set}
+use Rattle.std.specs.Prelude.{ℕ, suc, List, [], ◌∷◌, set}
 
 unfoldable pub lay : ℕ → List ℕ → List ℕ → List ℕ
 lay p [] s = s

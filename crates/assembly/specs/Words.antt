@@ -1,5 +1,5 @@
 -- A token as numbers: its class, where each mark is a class of its own, what it says, and the 32 bits of a slot.
-use Rattle.std.specs.Prelude.{ℕ, ◌+◌, ◌≡◌}
+use Rattle.std.specs.Prelude.{◌+◌, ◌≡◌}
 use Rattle.std.specs.Int.{w32}
 use Rattle.std.proofs.Common.{SFits}
 use Rattle.wire.specs.Wire.{bits_of}

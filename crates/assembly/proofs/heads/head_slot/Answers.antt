@@ -1,0 +1,17 @@
+-- `heads::head_slot` meets its contract.
+use Rattle.text.specs.Token.{comma}
+use Rattle.assembly.specs.Moves.{moves_of}
+use Rattle.assembly.proofs.Going.{stays-mark, stays-off, stays-more, stays-last}
+use Rattle.assembly.proofs.heads.head_slot.Goals as goal
+
+pub returns-then-n-ge3 : goal.returns-then-n-ge3
+unfolding moves_of
+returns-then-n-ge3 c = stays-last _ _ _ c.if-n-ge3.true c.last_slot.ensures
+
+pub returns-then-w-eq-COMMA : goal.returns-then-w-eq-COMMA
+unfolding moves_of
+returns-then-w-eq-COMMA c = stays-more _ _ _ c.if-n-ge3.false (stays-mark comma _ _ c.if-w-eq-COMMA.true c.here.ensures)
+
+pub returns : goal.returns
+unfolding moves_of
+returns c = stays-more _ _ _ c.if-n-ge3.false (stays-off comma _ _ c.if-w-eq-COMMA.false c.last_slot-2.ensures)

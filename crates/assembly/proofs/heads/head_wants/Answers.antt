@@ -1,0 +1,14 @@
+-- `heads::head_wants` meets its contract.
+use Rattle.assembly.specs.Moves.{moves_of}
+use Rattle.assembly.proofs.Going.{goes-no-slot, goes-slot, goes-stuck}
+use Rattle.assembly.proofs.heads.head_wants.Goals as goal
+
+pub returns-then-is_slot : goal.returns-then-is_slot
+unfolding moves_of
+returns-then-is_slot c =
+    goes-slot _ _ _ c.is_slot.ensures c.if-is_slot.true
+    c.here.ensures c.put_slot.ensures
+
+pub returns : goal.returns
+unfolding moves_of
+returns c = goes-no-slot _ _ _ c.is_slot.ensures c.if-is_slot.false (goes-stuck c.stuck.ensures)
