@@ -80,10 +80,12 @@ module _ {s : List ℕ} {at : ℕ} (a : Slot) where
   pub bad-put : a ≡ Bad → Put s at (first_text (slot_texts a)) 11 s at
   bad-put e = put-none s at 11 (slot-bad a e)
 
-  pub constant-put : {z : ℤ} → a ≡ Constant z → {u : List ℕ} {end : ℕ} → Put s at (term_text (constant z)) 11 u end → Put s at (first_text (slot_texts a)) 11 u end
+  pub constant-put : {z : ℤ} → a ≡ Constant z → {u : List ℕ} {end : ℕ} → Put s at (term_text (constant z)) 11 u end
+      → Put s at (first_text (slot_texts a)) 11 u end
   constant-put {z} e p = put-as p (slot-constant a z e) (omega arith)
 
-  pub of-variable : {v : ℕ} → a ≡ Variable v → {u : List ℕ} {end : ℕ} → Put s at (term_text (variable v)) 11 u end → Put s at (first_text (slot_texts a)) 11 u end
+  pub of-variable : {v : ℕ} → a ≡ Variable v → {u : List ℕ} {end : ℕ} → Put s at (term_text (variable v)) 11 u end
+      → Put s at (first_text (slot_texts a)) 11 u end
   of-variable {v} e p = put-as p (slot-variable a v e) (omega arith)
 
 -- whether one is used
@@ -153,7 +155,8 @@ unfolding some formulas_by
 by-alone [] ys e = sym e
 by-alone (a ∷ xs) ys e = refl
 
-by-applied : (n : ℕ) (xs ys : List Term) → (n ≡ 0 → ⊥) → some (map term_text xs) ≡ true → some (map term_text ys) ≡ some (map formula_text (formulas_by n xs ys))
+by-applied : (n : ℕ) (xs ys : List Term) → (n ≡ 0 → ⊥) → some (map term_text xs) ≡ true
+    → some (map term_text ys) ≡ some (map formula_text (formulas_by n xs ys))
 unfolding some formulas_by
 by-applied zero xs ys h e = absurd (h refl)
 by-applied (suc n) [] ys h e = never (sym e)
