@@ -112,22 +112,24 @@ put_all (q ∷ qs) x = put_all qs (put_bytes q.place q.bytes x)
 held-bytes : {buf x : List ℕ} (p : ℕ) (bs : List ℕ) → Held buf x → Held (lay p bs buf) (put_bytes p bs x)
 unfolding lay put_bytes
 held-bytes p [] h = h
-held-bytes p (b ∷ bs) h = held-bytes (suc p) bs (held-put p b h)
+held-bytes {buf} {x} p (b ∷ bs) h = held-bytes {buf = set buf p b} {x = put x p b} (suc p) bs (held-put p b h)
 
 pub held-all : {buf x : List ℕ} (ps : List Piece) → Held buf x → Held (lay_all ps buf) (put_all ps x)
 unfolding lay_all put_all
 held-all [] h = h
-held-all (q ∷ qs) h = held-all qs (held-bytes q.place q.bytes h)
+held-all {buf} {x} (q ∷ qs) h =
+    held-all {buf = lay q.place q.bytes buf} {x = put_bytes q.place q.bytes x} qs (held-bytes q.place q.bytes h)
 
 alike-bytes : {x y : List ℕ} (p : ℕ) (bs : List ℕ) → Alike x y → Alike (put_bytes p bs x) (put_bytes p bs y)
 unfolding put_bytes
 alike-bytes p [] h = h
-alike-bytes p (b ∷ bs) h = alike-bytes (suc p) bs (alike-put p b h)
+alike-bytes {x} {y} p (b ∷ bs) h = alike-bytes {x = put x p b} {y = put y p b} (suc p) bs (alike-put p b h)
 
 pub alike-all : {x y : List ℕ} (ps : List Piece) → Alike x y → Alike (put_all ps x) (put_all ps y)
 unfolding put_all
 alike-all [] h = h
-alike-all (q ∷ qs) h = alike-all qs (alike-bytes q.place q.bytes h)
+alike-all {x} {y} (q ∷ qs) h =
+    alike-all {x = put_bytes q.place q.bytes x} {y = put_bytes q.place q.bytes y} qs (alike-bytes q.place q.bytes h)
 
 -- ---- where the bytes come to stand
 
