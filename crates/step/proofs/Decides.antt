@@ -10,7 +10,7 @@ use lib.Dec.{eqb, leb, ltb}
 use lib.IntN.{ℤ, pos}
 use lib.ListN.{get_or, take, drop, length, replicate, get_elem?, length-append, length-map, length-drop}
 use lib.Seq.{length-take-le}
-use borrow.Author.Tests.{le-leb, lt-leb, lt-ltb, le-ltb, eq-eqb, ne_eqb, eqb-true, eqb-false, ltb-false}
+use borrow.Author.Tests.{le-leb, lt-leb, lt-ltb, le-ltb, ne_eqb, eqb-true, eqb-false, ltb-false}
 use Rattle.model.specs.declared.FactId.{FactId}
 use Rattle.model.specs.declared.Occurrence.{Occurrence}
 use Rattle.model.specs.declared.Symbol.{Symbol}
@@ -25,12 +25,11 @@ use Rattle.model.specs.declared.RuleShape.{RuleShape}
 use Rattle.model.specs.Reading.{read_of, no_shape}
 use Rattle.model.specs.Table.{Table, Head, Rule, table_of, rule_of, rule_at, places, heads_start, items_start, heads_from, items_from}
 use Rattle.model.specs.Search.{Fired, Found, nothing, undefined_guard, applies, fired_of, first_instance}
-use Rattle.model.specs.Steps.{State, no_stored, body_entries, gone, keep, without, pruned, remembered, prunes, active_entry, activated, advanced, dropped, pop_if}
-use Rattle.model.specs.Steps.{is_removed, fired, Outcome, moves, fires, fails, stops, within_history, within_stack, with_body, with_found, at_place}
+use Rattle.model.specs.Steps.{State, no_stored, body_entries, gone, keep, without, pruned, remembered, prunes, active_entry, advanced, pop_if}
+use Rattle.model.specs.Steps.{is_removed, fired, Outcome, fires, stops, within_stack, with_body, with_found, at_place}
 use Rattle.model.specs.Steps.{step_with, step_item}
 use Rattle.model.proofs.Good.{GoodTable, GoodRule, good-table}
 use Rattle.model.proofs.Decoded.{rule-at, rule-kept, rule-removed, rule-body, heads-none, heads-first, heads-length, places-few}
-use Rattle.model.proofs.Every.{every}
 use Rattle.occurrences.specs.declared.Spot.{Spot}
 use Rattle.occurrences.specs.declared.Spot.TheVariants.{At, Nothing as Unplaced}
 use Rattle.occurrences.specs.declared.Mark.{Mark}
@@ -46,7 +45,7 @@ use Rattle.step.specs.declared.Instance.{Instance}
 use Rattle.step.specs.declared.Decision.{Decision}
 use Rattle.step.specs.declared.Decision.TheVariants.{Activate, Drop, Default, Fire, Fail as Failing, Stop}
 use Rattle.records.specs.Geometry.{ItemsLie}
-use Rattle.values.specs.Views.{entries_made, Room, BodyWorked}
+use Rattle.values.specs.Views.{entries_made, BodyWorked}
 use Rattle.step.specs.Deciding.{base_of, room_of, place_of, fact_of, rule_found, fired_as, topped, outcome_of, Sure, Seen, instance_of, apply_of, CameTo}
 use Rattle.step.specs.Deciding.{mark_after, stored_as, Applying, Applied, Tried, Asked, Decided}
 use Rattle.store.proofs.Stock.{rows-length}

@@ -1,0 +1,13 @@
+-- `step::deciding::mark_of_entry` meets its contract, by the three cases of an item.
+use borrow.Author.Rules.{rules}
+use Rattle.step.proofs.Decides.{waiting-unmarked, active-marked, fail-unmarked}
+use Rattle.step.proofs.deciding.mark_of_entry.Goals as goal
+
+pub returns-in-Waiting : goal.returns-in-Waiting
+returns-in-Waiting c = search (waiting-unmarked, rules)
+
+pub returns-in-Active : goal.returns-in-Active
+returns-in-Active c = search (active-marked, rules)
+
+pub returns-in-Fail : goal.returns-in-Fail
+returns-in-Fail c = search (fail-unmarked, rules)
