@@ -85,7 +85,8 @@ module _ {s : List ℕ} {at : ℕ} (first : Bool) where
   value-left-out b e used h = argument-left-out (expression_texts b) (used ∙ ap (λ (x : Expression). some (expression_texts x)) e) h first
 
   pub value-put : {a : Expression} (b : Expression) {r : Bool} → a ≡ b → r ≡ some (expression_texts a) → not r ≡ false → {u v : List ℕ} {mid end : ℕ}
-      → Put s at (separator_text first) 2 u mid → Put u mid (first_text (expression_texts a)) 25 v end → Put s at (argument_text first (expression_texts b)) 27 v end
+      → Put s at (separator_text first) 2 u mid → Put u mid (first_text (expression_texts a)) 25 v end
+      → Put s at (argument_text first (expression_texts b)) 27 v end
   value-put {a} b e used h p q = rw (← e) (argument-put (expression_texts a) used h first p q)
 
 -- ---- one more argument

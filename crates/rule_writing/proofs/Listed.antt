@@ -58,7 +58,8 @@ module _ {unit top : ℕ} {Lie : Type 0} {s₀ : List ℕ} {at : ℕ} {whole s :
 
 -- the first and the rest of them
 list-put : {s : List ℕ} {at : ℕ} (x : List ℕ) {n : ℕ} {u : List ℕ} {mid : ℕ} (xs : List (List ℕ)) {unit k : ℕ} {v : List ℕ} {end : ℕ} → Put s at x n u mid
-    → Put u mid (more_text xs) (unit * (k - 1)) v end → 1 ≤ k → n ≤ unit → (texts : List (List ℕ)) → texts ≡ x ∷ xs → Put s at (list_text texts) (unit * k) v end
+    → Put u mid (more_text xs) (unit * (k - 1)) v end → 1 ≤ k → n ≤ unit → (texts : List (List ℕ)) → texts ≡ x ∷ xs
+    → Put s at (list_text texts) (unit * k) v end
 unfolding list_text
 list-put x xs {unit} {k} p q h small texts e = put-both p q (list_text texts) (unit * k) (ap list_text (sym e)) (omega (arith, mul-pred unit k h))
 
@@ -128,7 +129,8 @@ module _ (t : List ℕ) where
   pub guards-put : {s : List ℕ} {at : ℕ} {u v : List ℕ} {mid end : ℕ} (p n : ℕ) → Put s at (guard_text (guard_tree (guard_at t p))) 54 u mid
       → Put u mid (more_text (guard_texts t (p + 24) (n - 1))) (56 * (n - 1)) v end → 1 ≤ n → Put s at (list_text (guard_texts t p n)) (56 * n) v end
   guards-put p n a b h =
-      list-put (guard_text (guard_tree (guard_at t p))) (guard_texts t (p + 24) (n - 1)) a b h (omega arith) (guard_texts t p n) (guards-texts p n (omega arith))
+      list-put (guard_text (guard_tree (guard_at t p))) (guard_texts t (p + 24) (n - 1)) a b h (omega arith) (guard_texts t p n)
+      (guards-texts p n (omega arith))
 
 -- ---- items
 
@@ -164,7 +166,8 @@ module _ (t : List ℕ) where
         p1 p2 (omega arith) (rest-lies t p left l.lie h e)
 
   pub items-put : {s : List ℕ} {at : ℕ} {u v : List ℕ} {mid end : ℕ} (p n : ℕ) {q : ℕ} → Put s at (item_text (item_tree (item_at t p))) 120 u mid
-      → Put u mid (more_text (item_texts t q (n - 1))) (122 * (n - 1)) v end → q ≡ behind_item t p → 1 ≤ n → Put s at (list_text (item_texts t p n)) (122 * n) v end
+      → Put u mid (more_text (item_texts t q (n - 1))) (122 * (n - 1)) v end → q ≡ behind_item t p → 1 ≤ n
+      → Put s at (list_text (item_texts t p n)) (122 * n) v end
   items-put p n {q} a b e h =
       list-put (item_text (item_tree (item_at t p))) (item_texts t q (n - 1)) a b h (omega arith) (item_texts t p n)
       (items-texts p n (omega arith) ∙ ap (λ (x : ℕ). item_text (item_tree (item_at t p)) ∷ item_texts t x (n - 1)) (sym e))

@@ -25,8 +25,10 @@ pub head-slots : (t : List ℕ) (p : ℕ) → (head_at t p).slots ≡ slot_at t 
 unfolding head_at
 head-slots t p = refl
 
-module _ {s : List ℕ} {at : ℕ} {u v : List ℕ} {mid end : ℕ} (t : List ℕ) (p : ℕ) {k : ℕ} (b : k ≡ get_or t (p + 1) 0) (q : Put s at (symbol_text k) 11 u mid) where
-  pub head-put : Put u mid (bracket_text (map term_text (used_of terms_in (head_at t p).slots))) 53 v end → Put s at (head_text (head_tree (head_at t p))) 64 v end
+module _ {s : List ℕ} {at : ℕ} {u v : List ℕ} {mid end : ℕ} (t : List ℕ) (p : ℕ) {k : ℕ} (b : k ≡ get_or t (p + 1) 0)
+    (q : Put s at (symbol_text k) 11 u mid) where
+  pub head-put : Put u mid (bracket_text (map term_text (used_of terms_in (head_at t p).slots))) 53 v end
+      → Put s at (head_text (head_tree (head_at t p))) 64 v end
   unfolding head_text head_tree head_at
   head-put r = put-both q r (head_text (head_tree (head_at t p))) 64 (rw b) (omega arith)
 

@@ -13,7 +13,8 @@ use Rattle.records.specs.Geometry.{ItemsLie}
 use Rattle.text.specs.Token.{backslash, simplifies, propagates, bar, true_word}
 use Rattle.text.specs.Printed.{mark_text}
 use Rattle.text_writing.specs.Written.{Put}
-use Rattle.text_writing.specs.Parts.{list_text, head_text, guard_text, item_text, heads_text, guards_text, body_text, rule_text, head_texts, guard_texts, item_texts}
+use Rattle.text_writing.specs.Parts.{list_text, head_text, guard_text, item_text, heads_text, guards_text, body_text, rule_text}
+use Rattle.text_writing.specs.Parts.{head_texts, guard_texts, item_texts}
 use Rattle.text_writing.specs.Parts.{GuardsLie, Printable}
 use Rattle.text_writing.proofs.Writes.{put-as, put-both, put-none}
 

@@ -16,7 +16,6 @@ use Rattle.grammar.specs.Layout.{tree_of}
 use Rattle.grammar.specs.WellFormed.{HeadGood, ItemGood, RuleGood, WellFormed, Uses}
 use Rattle.grammar.proofs.Grammar.{good-encodes}
 use Rattle.model.proofs.Ranges.{AreBytes}
-use Rattle.text.specs.Token.{comma}
 use Rattle.text.specs.Printed.{decimal, term_text, symbol_text, comparator_text, operation_text, mark_text, declarations_text, printed}
 use Rattle.text_writing.specs.Written.{longest_text}
 use Rattle.text_writing.specs.Parts.{more_text, list_text, open_text, close_text, bracket_text, each_text, formula_text, head_text, guard_text, item_text}
@@ -152,7 +151,8 @@ module _ (arities : List ℕ) (small : every (λ (a : ℕ). a ≤ 4) arities) wh
   heads-list-short hs w =
       omega (arith, list-short 66 (map head_text hs) (every-text (HeadGood arities) (Within 66) head_text head-short hs w), length-map hs head_text)
 
-  heads-short : (ks rs : List HeadTree) → every (HeadGood arities) ks → every (HeadGood arities) rs → length ks + length rs ≤ 4 → length (heads_text ks rs) ≤ 272
+  heads-short : (ks rs : List HeadTree) → every (HeadGood arities) ks → every (HeadGood arities) rs → length ks + length rs ≤ 4
+      → length (heads_text ks rs) ≤ 272
   unfolding heads_text mark_text
   heads-short [] rs k r h =
       let mark : List ℕ = 32 ∷ 60 ∷ 61 ∷ 62 ∷ 32 ∷ [] in omega (arith, length-append (list_text (map head_text rs)) mark, heads-list-short rs r)

@@ -5,7 +5,8 @@ use mathlib.Core.List.{List, [], ◌∷◌, ◌++◌, map, append_assoc, append-
 use Rattle.grammar.specs.Tree.{Term, Formula, alone, applied, HeadTree, GuardTree, ItemTree, fact, fail, RuleTree, TableTree}
 use Rattle.text.specs.Token.{Token, compares, mark, backslash, simplifies, propagates, bar, closes, stop}
 use Rattle.text.specs.Token.{true_word, fail_word}
-use Rattle.text.specs.Text.{more_tokens, list_tokens, bracket_tokens, each_tokens, term_tokens, formula_tokens, head_tokens, guard_tokens, item_tokens, heads_tokens}
+use Rattle.text.specs.Text.{more_tokens, list_tokens, bracket_tokens, each_tokens, term_tokens, formula_tokens, head_tokens, guard_tokens, item_tokens}
+use Rattle.text.specs.Text.{heads_tokens}
 use Rattle.text.specs.Text.{guards_tokens, body_tokens, rule_tokens}
 use Rattle.text.specs.Printed.{term_text, symbol_text, operation_text, mark_text, token_text, tokens_text, declarations_text, printed}
 use Rattle.text_writing.specs.Parts.{more_text, list_text, open_text, close_text, bracket_text, each_text, formula_text, head_text, guard_text, item_text}
