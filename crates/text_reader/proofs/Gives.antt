@@ -1,18 +1,13 @@
 -- From the assembled bytes to what the call gives: what is in the room is the table, or its front, which the check answers for.
-use Prim.Native.Nat.{ℕ, ◌+◌, ◌<◌, ◌≤◌}
+use Prim.Native.Nat.{ℕ, ◌<◌, ◌≤◌}
 use mathlib.Core.Path.{◌≡◌, refl, sym, ap, ◌∙◌, subst}
-use mathlib.Core.Logic.{◌⊎◌, inl, inr, ⊎_elim}
-use mathlib.Core.Bool.{Bool, true, false}
+use mathlib.Core.Logic.{inl, inr, ⊎_elim}
 use mathlib.Core.List.{List, [], ◌∷◌, ◌++◌}
 use native.Mathlib.Omega.{arith}
 use borrow.Author.Tests.{lt-ltb, le-ltb, eq-eqb, ne_eqb}
-use lib.Dec.{eqb}
 use lib.ListN.{length, drop, take, get_or, replicate, length-take, length-replicate}
 use lib.Seq.{ext_get_or, get_or-take}
 use Rattle.model.specs.declared.CallResult.{CallResult}
-use Rattle.model.specs.declared.Verdict.{Verdict}
-use Rattle.model.specs.declared.Verdict.TheVariants.{Good}
-use Rattle.model.specs.Reading.{read_of}
 use Rattle.model.specs.Results.{refusal}
 use Rattle.model.specs.Calls.{check_of, verdict_result}
 use Rattle.grammar.specs.Tree.{TableTree}
@@ -24,7 +19,7 @@ use Rattle.assembled.specs.Holds.{Held}
 use Rattle.text_reader.specs.declared.Passed.{Passed}
 use Rattle.text_reader.specs.declared.Passed.TheVariants.{Whole, NoToken, Wrong, Unfinished}
 use Rattle.text_reader.specs.declared.TextRead.{TextRead}
-use Rattle.text_reader.specs.ReadText.{ReadCall, read_refused, read_written, read_checked, read_room, read_parsed, read_text_of}
+use Rattle.text_reader.specs.ReadText.{read_checked, read_room, read_parsed, read_text_of}
 use Rattle.text_reader.specs.Passing.{passed_of, HeldBy, PassedIs, Blank, Least, RoomGiven, TextGiven}
 use Rattle.text_reader.proofs.Places.{ParsedNear, parsed-near}
 
@@ -43,9 +38,6 @@ no-bytes n e = rw e (record { zeros = ap (λ (k : ℕ). replicate k 0) (sym (len
 all-of : (l : List ℕ) → take (length l) l ≡ l
 all-of [] = refl
 all-of (x ∷ xs) = ap (λ (y : List ℕ). x ∷ y) (all-of xs)
-
-pub whole-copied : {s' : List ℕ} (a s : List ℕ) → s' ≡ take (length a) a ++ drop (length a) s → s' ≡ a ++ drop (length a) s
-whole-copied a s e = e ∙ ap (λ (x : List ℕ). x ++ drop (length a) s) (all-of a)
 
 -- ---- what is in the room
 

@@ -6,14 +6,13 @@ use mathlib.Core.List.{List}
 use native.Mathlib.Omega.{arith}
 use lib.ListN.{length, drop, get_or}
 use borrow.Author.Tests.{not-true, not-false}
-use Rattle.text.specs.Spelling.{is_blank, token_at, found, nothing}
+use Rattle.text.specs.Spelling.{is_blank}
 use Rattle.text.specs.Tokens.{lexed_from}
 use Rattle.text.proofs.Lexing.{at-end, at-blank, at-token, at-none}
-use Rattle.tokens.specs.Views.{token_of, Sane, found_of, FoundAt, FoundSane, FoundWithin}
+use Rattle.tokens.specs.Views.{found_of, FoundAt, FoundSane, FoundWithin}
 use Rattle.tokens.specs.declared.Token.{Token as CodeToken}
 use Rattle.tokens.specs.declared.Found.{Found}
 use Rattle.tokens.specs.declared.Found.TheVariants.{Token as Here, Nothing}
-use Rattle.text_reader.specs.declared.Next.{Next}
 use Rattle.text_reader.specs.declared.Next.TheVariants.{Token, Strange, End}
 use Rattle.text_reader.specs.Passing.{Skipped, NextIs}
 

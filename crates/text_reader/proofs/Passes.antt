@@ -1,32 +1,25 @@
 -- A pass over a text, token by token: what is left of the text, read from here, gives what the whole text is; and the assembly holds what is read.
-use Prim.Native.Nat.{ℕ, zero, suc, ◌+◌, ◌*◌, ◌-◌, ◌<◌, ◌≤◌}
+use Prim.Native.Nat.{ℕ, ◌+◌, ◌*◌, ◌<◌, ◌≤◌}
 use mathlib.Core.Path.{◌≡◌, refl, sym, ap, ◌∙◌, subst}
-use mathlib.Core.Bool.{Bool, true, false, not}
-use mathlib.Core.Option.{Option, none, some}
-use mathlib.Core.List.{List, [], ◌∷◌, ◌++◌}
+use mathlib.Core.Bool.{Bool, true, false}
+use mathlib.Core.List.{List, [], ◌∷◌}
 use native.Mathlib.Omega.{arith}
-use borrow.Author.Tests.{not-true, not-false}
-use lib.ListN.{length, drop, get_or, set, replicate, length-append}
-use lib.Seq.{set_out}
+use lib.ListN.{length, drop, set, length-append}
 use Rattle.grammar.specs.Tree.{TableTree}
 use Rattle.grammar.specs.Encode.{encode}
 use Rattle.text.specs.Token.{is_slot}
-use Rattle.text.specs.Token as text-token
 use Rattle.text.specs.Tokens.{Lexed, end, no_token, next, lexed_from, lexed}
 use Rattle.tokens.specs.Views.{token_of, Sane}
 use Rattle.tokens.specs.declared.Token.{Token as CodeToken}
 use Rattle.parsing.specs.Progress.{first, second, Progress, declared, named, slashed, sized, ruled, head_named, head_wants, head_slot, head_done, head_next}
 use Rattle.parsing.specs.Progress.{headed, wants, term, operated, formed, body, emptied, item_named, item_done, item_next}
 use Rattle.parsing.specs.Progress as reading
-use Rattle.parsing.specs.Edges.{step}
-use Rattle.parsing.specs.Parsed.{Parsed, tree, strange, wrong, unfinished, whole, ended, go_on, wrong_from, parsed_from, parsed}
+use Rattle.parsing.specs.Parsed.{Parsed, whole, ended, go_on, wrong_from, parsed_from, parsed}
 use Rattle.assembly.specs.declared.Assembly.{Assembly}
-use Rattle.assembly.specs.declared.Phase.{Phase}
 use Rattle.assembly.specs.declared.Phase.TheVariants.{Declared}
-use Rattle.assembly.specs.Pieces.{lay_all}
 use Rattle.assembly.specs.Moves.{here, moved, is_stuck, ends}
 use Rattle.assembly.specs.Advances.{GroupNear, GroupIn, PhaseNear, Advanced}
-use Rattle.assembled.specs.Holds.{behind, table_bytes, head_of, rule_front, heads_front, front_of, phase_of, group_of, flat_of, Held, Holds}
+use Rattle.assembled.specs.Holds.{behind, table_bytes, head_of, rule_front, heads_front, front_of, phase_of, group_of, Held, Holds}
 use Rattle.assembled.proofs.Follows.{holds-begins, holds-step, told-stuck, free-step, holds-whole, ends-whole, open-whole, moved-near}
 use Rattle.text_reader.specs.declared.Next.{Next}
 use Rattle.text_reader.specs.declared.Next.TheVariants.{Token, Strange, End}
@@ -205,12 +198,12 @@ module _ {text : List ℕ} {at : ℕ} {after : Bool} {a : Assembly} {buf : List 
 
 -- ---- the end of a text
 
-pub finish-open : {a : Assembly} {s : List ℕ} {b : Bool} → b ≡ ends a.phase → not b ≡ true → Finished a s Unfinished s
+pub finish-open : {a : Assembly} {s : List ℕ} {b : Bool} → b ≡ ends a.phase → b ≡ false → Finished a s Unfinished s
 finish-open {a} {s} {b} e h =
-    let d : ends a.phase ≡ false = sym e ∙ not-true b h in
+    let d : ends a.phase ≡ false = sym e ∙ h in
     record { by = subst (λ (x : Bool). FinishedBy x a.at s Unfinished s) (sym d) refl }
 
-pub finish-there : {a : Assembly} {s s' : List ℕ} {b : Bool} → b ≡ ends a.phase → not b ≡ false → s' ≡ set s a.at 8 → Finished a s (Whole (a.at + 1)) s'
+pub finish-there : {a : Assembly} {s s' : List ℕ} {b : Bool} → b ≡ ends a.phase → b ≡ true → s' ≡ set s a.at 8 → Finished a s (Whole (a.at + 1)) s'
 finish-there {a} {s} {s'} {b} e h k =
-    let d : ends a.phase ≡ true = sym e ∙ not-false b h in
+    let d : ends a.phase ≡ true = sym e ∙ h in
     record { by = subst (λ (x : Bool). FinishedBy x a.at s (Whole (a.at + 1)) s') (sym d) (refl, k) }

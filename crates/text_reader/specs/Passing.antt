@@ -3,13 +3,12 @@ use Rattle.std.specs.Prelude.{ℕ, ◌+◌, ◌<◌, ◌≤◌, ◌≡◌, ◌�
 use Rattle.grammar.specs.Encode.{encode}
 use Rattle.text.specs.Token.{is_slot}
 use Rattle.text.specs.Spelling.{is_blank}
-use Rattle.text.specs.Tokens.{Lexed, end, no_token, next, lexed_from, lexed}
+use Rattle.text.specs.Tokens.{Lexed, end, no_token, next, lexed_from}
 use Rattle.tokens.specs.Views.{token_of, Sane}
-use Rattle.parsing.specs.Parsed.{Parsed, tree, strange, wrong, unfinished, parsed}
+use Rattle.parsing.specs.Parsed.{Parsed, tree, strange, wrong, unfinished}
 use Rattle.assembly.specs.declared.Assembly.{Assembly}
 use Rattle.assembly.specs.Moves.{ends}
 use Rattle.assembled.specs.Holds.{Held}
-use Rattle.model.specs.declared.CallResult.{CallResult}
 use Rattle.text_reader.specs.declared.Next.{Next}
 use Rattle.text_reader.specs.declared.Next.TheVariants.{Token, Strange, End}
 use Rattle.text_reader.specs.declared.Passed.{Passed}

@@ -51,7 +51,7 @@ fn no_table() -> [u8; ROOM]
 
 fn refused(number: u8, place: usize) -> TextRead
     requires { place < 4294967296 }
-    ensures* { λ r. ⌜ r ≡ record { result = refusal number place; length = 0 } ⌝ }
+    ensures { result ≡ record { result = refusal number place; length = 0 } }
 {
     TextRead {
         result: CallResult::refusal(number, place as u32),

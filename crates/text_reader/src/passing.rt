@@ -20,6 +20,7 @@ fn start() -> Assembly
 }
 
 // Whether no text goes on.
+#[tactic(auto, unfolding(assembly::specs::Moves::is_stuck))]
 fn is_stuck(phase: Phase) -> bool
     ensures { result ≡ is_stuck phase }
 {
@@ -49,6 +50,7 @@ fn is_stuck(phase: Phase) -> bool
 }
 
 // Whether a text may end: behind a declaration or a rule.
+#[tactic(auto, unfolding(assembly::specs::Moves::ends))]
 fn may_end(phase: Phase) -> bool
     ensures { result ≡ ends phase }
 {
