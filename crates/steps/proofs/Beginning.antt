@@ -10,7 +10,6 @@ use lib.IntN.{ℤ, pos}
 use lib.ListN.{get_or, set, length, replicate}
 use borrow.Author.Tests.{eq-eqb, ne_eqb}
 use Rattle.model.specs.declared.Fact.{Fact}
-use Rattle.model.specs.declared.Stored.{Stored}
 use Rattle.model.specs.declared.Item.TheVariants.{Waiting}
 use Rattle.model.specs.declared.Entry.{Entry}
 use Rattle.model.specs.declared.Item.{Item}
@@ -33,9 +32,8 @@ use Rattle.occurrences.specs.declared.Mark.{Mark}
 use Rattle.occurrences.specs.Counting.{found_place, no_mark, Marked}
 use Rattle.occurrences.proofs.Marks.{no-mark-yet}
 use Rattle.store.specs.Views.{Columns, columns_of}
-use Rattle.step.specs.Deciding.{stored_as}
 use Rattle.steps.specs.Arrays.{blank, Begun, Finished}
-use Rattle.step.specs.Deciding.{fact_of, place_of, rule_found, Asked}
+use Rattle.step.specs.Deciding.{place_of, rule_found, Asked}
 use Rattle.step.proofs.Decides.{rule-placed, rule-in}
 use Rattle.steps.proofs.Stacked.{Loading, load-more}
 use Rattle.steps.proofs.Running.{Running, run-start}

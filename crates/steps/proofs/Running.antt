@@ -2,9 +2,8 @@
 -- that what is left of the run equals the whole. `Running` holds at the loop's head, `Firing` while a body is pushed.
 use mathlib.Core.Path.{◌≡◌, refl, sym, ap, subst, ◌∙◌}
 use mathlib.Core.Bool.{Bool, true, false, cond}
-use mathlib.Core.Option.{Option, none, some}
 use mathlib.Core.List.{List, [], ◌∷◌, ◌++◌, map}
-use Prim.Native.Nat.{ℕ, zero, suc, ◌+◌, ◌-◌, ◌<◌, ◌≤◌}
+use Prim.Native.Nat.{ℕ, suc, ◌+◌, ◌-◌, ◌<◌, ◌≤◌}
 use native.Mathlib.Omega.{arith}
 use native.Mathlib.Numerals.{add-one}
 use lib.Dec.{eqb}
@@ -16,17 +15,12 @@ use Rattle.model.specs.declared.FactId.{FactId}
 use Rattle.model.specs.declared.Fact.{Fact}
 use Rattle.model.specs.declared.Entry.{Entry}
 use Rattle.model.specs.declared.Stored.{Stored}
-use Rattle.model.specs.declared.Binding.{Binding}
-use Rattle.model.specs.declared.RuleShape.{RuleShape}
-use Rattle.model.specs.Guards.{unbound}
-use Rattle.model.specs.Reading.{read_of, no_shape}
 use Rattle.model.specs.Table.{table_of, behind_item}
 use Rattle.model.specs.Search.{Fired, is_among, fired_of}
-use Rattle.model.specs.Steps.{State, waiting, start, keep, without, active_entry, activated, dropped, Outcome, moves, fires, fails}
+use Rattle.model.specs.Steps.{State, waiting, start, keep, without, active_entry, activated, dropped, Outcome, moves, fires}
 use Rattle.model.specs.Steps.{stops, step_item}
 use Rattle.model.specs.Results.{counts_of, result_of}
 use Rattle.model.specs.Run.{Ended, ended_as, run_from, run}
-use Rattle.model.proofs.Good.{GoodTable}
 use Rattle.model.proofs.Loop.{run-done, run-limit, run-moves, run-fires, run-fails, run-stops}
 use Rattle.chosen.specs.Views.{fact_id, ids_of}
 use Rattle.history.specs.Views.{fired_at, past_of, Pruned}
@@ -37,7 +31,7 @@ use Rattle.step.specs.declared.Decision.TheVariants.{Activate, Drop, Default, Fi
 use Rattle.values.specs.Views.{entry_made, entries_made}
 use Rattle.step.specs.Deciding.{stored_as}
 use Rattle.steps.specs.Arrays.{blank, stack_of, Finished}
-use Rattle.step.specs.Deciding.{fact_of, fired_as, topped, outcome_of, Fits, Sure, Seen, Decided}
+use Rattle.step.specs.Deciding.{fired_as, topped, outcome_of, Fits, Sure, Seen, Decided}
 use Rattle.steps.proofs.Pushed.{Pushing, push-none, pushed-here, pushed-behind, push-more, push-stack}
 use Rattle.store.proofs.Stock.{put-whole, store-more, store-count}
 use Rattle.steps.proofs.Stacked.{stack-top, stack-put, stack-length, stack-empty, stack-drop, Loading}
