@@ -44,7 +44,8 @@ by-result {end} {r} {x} {s} {d} {a} e f = subst (λ (y : CallResult). Finished e
 -- ---- what the small functions give
 
 module _ (d : ℕ) {steps firings given stored : ℕ} {r : CallResult} where
-  pub empty-ends : d ≡ 0 → r ≡ result_of 0 0 (counts_of steps firings) given stored → r ≡ result_of (cond (eqb d 0) 0 2) 0 (counts_of steps firings) given stored
+  pub empty-ends : d ≡ 0 → r ≡ result_of 0 0 (counts_of steps firings) given stored
+      → r ≡ result_of (cond (eqb d 0) 0 2) 0 (counts_of steps firings) given stored
   empty-ends z e = rw (eq-eqb d 0 z) e
 
   pub other-ends : (d ≡ 0 → ⊥) → r ≡ result_of 2 0 (counts_of steps firings) given stored

@@ -52,7 +52,8 @@ unfolding stack_of
 stack-drop es u zero l = let z : u ≡ 0 = omega arith in let q : zero - u ≡ 0 = omega arith in rw (q, z)
 stack-drop es u (suc d) l = go (ltb d u) refl (stack-drop es u d)
   where
-    go : (x : Bool) → ltb d u ≡ x → (u ≤ d → drop (d - u) (stack_of es d) ≡ stack_of es u) → drop (suc d - u) (get_or es d blank ∷ stack_of es d) ≡ stack_of es u
+    go : (x : Bool) → ltb d u ≡ x → (u ≤ d → drop (d - u) (stack_of es d) ≡ stack_of es u)
+        → drop (suc d - u) (get_or es d blank ∷ stack_of es d) ≡ stack_of es u
     go true q lower =
         let e : suc d ≡ u = omega (arith, ltb-true d u q) in
         let z : suc d - u ≡ 0 = omega arith in

@@ -25,5 +25,4 @@ loop-rule-preserved c =
     rule-passed c.requires c.loop-rule-test.true c.shape_at-shape.ensures c.in_rule-look.ensures c.in-Left.is ∙ c.loop-rule.invariant
 
 pub returns : goal.returns
-returns c =
-    none-behind c.requires _ _ c.loop-rule-test.false ∙ c.loop-rule.invariant
+returns c = none-behind c.requires _ _ c.loop-rule-test.false ∙ c.loop-rule.invariant

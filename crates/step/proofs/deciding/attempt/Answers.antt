@@ -10,12 +10,10 @@ pub apply-requires : goal.apply-requires
 apply-requires c = search (applying, rules)
 
 pub returns-in-Nothing : goal.returns-in-Nothing
-returns-in-Nothing c =
-    defaults c.requires _ _ _ _ _ c.first_instance-outcome.ensures c.in-Nothing.is
+returns-in-Nothing c = defaults c.requires _ _ _ _ _ c.first_instance-outcome.ensures c.in-Nothing.is
 
 pub returns-in-UndefinedGuard : goal.returns-in-UndefinedGuard
 returns-in-UndefinedGuard c = search (no-value, rules)
 
 pub returns-in-Applies : goal.returns-in-Applies
-returns-in-Applies c =
-    applied c.requires _ _ _ _ _ c.first_instance-outcome.ensures c.in-Applies.is _ c.apply.ensures
+returns-in-Applies c = applied c.requires _ _ _ _ _ c.first_instance-outcome.ensures c.in-Applies.is _ c.apply.ensures
