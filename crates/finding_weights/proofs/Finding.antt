@@ -3,11 +3,10 @@
 use Prim.Native.Nat.{ℕ, zero, suc, ◌-◌, ◌≤◌}
 use mathlib.Core.Path.{◌≡◌, refl, sym, ap, ◌∙◌}
 use mathlib.Core.Bool.{true}
-use mathlib.Core.List.{List, ◌∷◌, ◌++◌, append-nil}
+use mathlib.Core.List.{List, ◌∷◌}
 use native.Mathlib.Omega.{arith}
 use lib.Dec.{eqb}
-use lib.ListN.{length, take, drop, replicate, length-replicate, drop_of_length-le}
-use lib.Seq.{take-length}
+use lib.ListN.{length, take, replicate, length-replicate}
 use Rattle.model.specs.declared.RuleNumber.{RuleNumber}
 use Rattle.model.specs.declared.CallResult.{CallResult}
 use Rattle.model.specs.declared.Reading.{Reading}
@@ -27,10 +26,6 @@ take-ones : (n m : ℕ) → n ≤ m → take {A = ℕ} n (replicate m 1) ≡ rep
 take-ones zero m h = refl
 take-ones (suc n) zero h = absurd (omega arith)
 take-ones (suc n) (suc m) h = ap {B = List ℕ} (λ l. 1 ∷ l) (take-ones n m (omega arith))
-
--- a copy over all of the buffer
-pub copied : (ws buffer : List ℕ) {out : List ℕ} → length ws ≡ length buffer → out ≡ take (length ws) ws ++ drop (length ws) buffer → out ≡ ws
-copied ws buffer l e = e ∙ rw (take-length ws, drop_of_length-le buffer {i = length ws} (omega arith)) (append-nil ws)
 
 -- ---- the search's end
 
