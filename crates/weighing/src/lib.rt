@@ -25,7 +25,7 @@ pub enum FirstSymbol {
 
 // A result with no counts, W and the bound.
 fn weighing(number: u8, place: u32, weight: u32, bound: u32) -> Weighing
-    ensures* { λ r. ⌜ r ≡ record { result = refusal number place; weight = weight; bound = bound } ⌝ }
+    ensures { result ≡ record { result = refusal number place; weight = weight; bound = bound } }
 {
     let result = CallResult::refusal(number, place);
     Weighing {
