@@ -23,11 +23,9 @@ use Rattle.text_printer.specs.PrintText.{print_room, print_table, print_text_of,
 abbrev outcome_of : CallResult → ℕ → Printing
 outcome_of r n = record { result = r; length = n }
 
-pub same-result : {r d : CallResult} {n : ℕ} → r ≡ d → outcome_of r n ≡ outcome_of d n
-same-result {n = n} e = ap (λ (x : CallResult). outcome_of x n) e
-
 -- the text is measured where it is not written
-pub measured : (t : List ℕ) {s u : List ℕ} {end : ℕ} → Put s 0 (printed (tree_of t)) longest_text u end → Counted (length (printed (tree_of t))) longest_text end
+pub measured : (t : List ℕ) {s u : List ℕ} {end : ℕ} → Put s 0 (printed (tree_of t)) longest_text u end
+    → Counted (length (printed (tree_of t))) longest_text end
 measured t p = record { same = omega (arith, p.place); few = omega (arith, p.place, p.few) }
 
 module _ (t text : List ℕ) {long : ℕ} (m : Counted (length (printed (tree_of t))) longest_text long) {r : Printing} where

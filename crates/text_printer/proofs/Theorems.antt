@@ -85,7 +85,8 @@ module _ (t buffer : List ℕ) where
   pub buffer-long : length call.text ≡ length buffer
   buffer-long =
       print-cases t buffer (λ (o : PrintCall). length o.text ≡ length buffer)
-      (λ e h. length-append (printed (tree_of t)) (drop (length (printed (tree_of t))) buffer) ∙ omega (arith, length-drop (length (printed (tree_of t))) buffer))
+      (λ e h. length-append (printed (tree_of t)) (drop (length (printed (tree_of t))) buffer)
+      ∙ omega (arith, length-drop (length (printed (tree_of t))) buffer))
       (λ e. refl) (λ n p e. refl)
 
   -- 65,536 bytes have room for every good table's text

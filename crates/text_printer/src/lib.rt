@@ -22,7 +22,7 @@ pub struct Printing {
 }
 
 fn outcome(number: u8, place: u32, length: u32) -> Printing
-    ensures* { λ r. ⌜ r ≡ record { result = refusal number place; length = length } ⌝ }
+    ensures { result ≡ record { result = refusal number place; length = length } }
 {
     let result = CallResult::refusal(number, place);
     Printing {
