@@ -1,6 +1,5 @@
 -- `numerals::digits_at` meets its contract. The invariant: what the digits passed say and the digits left are those of the whole.
 use borrow.Author.Rules.{rules}
-use native.Mathlib.Omega.{arith}
 use Rattle.tokens.proofs.DigitReads.{first-turn, next-turn, no-digit, no-byte, digit-told}
 use Rattle.tokens.proofs.numerals.digits_at.Goals as goal
 
@@ -12,12 +11,6 @@ returns-then-not-is_digit c = search (no-digit, rules)
 
 pub grown-value-requires : goal.grown-value-requires
 grown-value-requires c = search (digit-told, rules)
-
-pub overflow_add-end : goal.overflow_add-end
-overflow_add-end c = omega arith
-
-pub loop-end-smaller : goal.loop-end-smaller
-loop-end-smaller c = omega arith
 
 pub loop-end-preserved : goal.loop-end-preserved
 loop-end-preserved c = search (next-turn, rules)
