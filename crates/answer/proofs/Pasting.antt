@@ -8,7 +8,7 @@ use native.Mathlib.Numerals.{add-one}
 use lib.ListN.{length, take, drop, set, length-append, length-set}
 use lib.Seq.{length-take-le, take_at, drop-append-add, drop-drop, set_split}
 use Rattle.wire.specs.Wire.{bytes4, put_u32}
-use Rattle.wire.specs.Laws.{put-parts, length-put}
+use Rattle.wire.proofs.Laws.{put-parts, length-put}
 
 -- s with the n bytes x from `at` on
 abbrev pub pasted : ℕ → ℕ → List ℕ → List ℕ → List ℕ

@@ -10,7 +10,7 @@ use lib.ListN.{length, get_or, set}
 use lib.Dec.{leb}
 use borrow.Author.Tests.{leb-true}
 use Rattle.wire.specs.Wire.{bytes4, bits_of, put_u32}
-use Rattle.wire.specs.Laws.{length-put}
+use Rattle.wire.proofs.Laws.{length-put}
 use Rattle.model.specs.declared.Stored.{Stored}
 use Rattle.model.specs.Answer.{stored_bytes, answer_bytes, answered}
 use Rattle.model.proofs.Results.{answer-bytes-length, answered-length}

@@ -8,7 +8,7 @@ use native.Mathlib.Omega.{arith}
 use lib.Dec.{eqb}
 use lib.ListN.{length, get_or}
 use borrow.Author.Tests.{eq-eqb}
-use Rattle.numbers.specs.Laws.{InRange}
+use Rattle.numbers.proofs.Laws.{InRange}
 use Rattle.wire.specs.Wire.{bytes4, bits_of}
 use Rattle.model.specs.declared.Stored.{Stored}
 use Rattle.model.specs.Reading.{read_of}

@@ -12,9 +12,9 @@ use lib.IntN.{ℤ, pos}
 use lib.ListN.{length, get_or, take, replicate, length-map}
 use lib.Seq.{length-take-le}
 use borrow.Author.Tests.{lt-leb, le-leb, ltb-true, ltb-false}
-use Rattle.numbers.specs.Laws.{InRange, in-range-fits, fits-in-range}
+use Rattle.numbers.proofs.Laws.{InRange, in-range-fits, fits-in-range}
 use Rattle.wire.specs.Wire.{u32_at, i32_at, signed_of, bits_of, bytes4}
-use Rattle.wire.specs.Laws.{bits-below, signed-bits, signed-fits, signed-low}
+use Rattle.wire.proofs.Laws.{bits-below, signed-bits, signed-fits, signed-low}
 use Rattle.model.specs.declared.Fact.{Fact}
 use Rattle.model.specs.declared.Verdict.{Verdict}
 use Rattle.model.specs.declared.Verdict.TheVariants.{Good, Refused}

@@ -9,9 +9,9 @@ use native.Mathlib.Nat.{mul-suc}
 use lib.Dec.{ltb, leb}
 use lib.ListN.{length, get_or, length-append}
 use borrow.Author.Tests.{lt-leb, leb-false, ltb-false, not-false}
-use Rattle.numbers.specs.Laws.{fits-in-range}
+use Rattle.numbers.proofs.Laws.{fits-in-range}
 use Rattle.wire.specs.Wire.{u32_at}
-use Rattle.wire.specs.Laws.{signed-fits}
+use Rattle.wire.proofs.Laws.{signed-fits}
 use Rattle.model.specs.declared.Slot.{Slot}
 use Rattle.model.specs.declared.Slot.TheVariants.{Unused, Constant, Variable, Bad}
 use Rattle.model.specs.declared.Expression.{Expression}

@@ -8,9 +8,9 @@ use lib.Dec.{ltb, eqb}
 use lib.ListN.{length, get_or, replicate}
 use lib.IntN.{ℤ}
 use borrow.Author.Tests.{ltb-true, eqb-true, lt-ltb}
-use Rattle.numbers.specs.Laws.{InRange, in-range-fits}
+use Rattle.numbers.proofs.Laws.{InRange, in-range-fits}
 use Rattle.wire.specs.Wire.{u32_at, signed_of, bits_of, bytes4}
-use Rattle.wire.specs.Laws.{bits-below, signed-bits, bits-signed}
+use Rattle.wire.proofs.Laws.{bits-below, signed-bits, bits-signed}
 use Rattle.model.specs.declared.Slot.{Slot}
 use Rattle.model.specs.declared.Slot.TheVariants.{Unused, Constant, Variable, Bad}
 use Rattle.model.specs.declared.Expression.{Expression}

@@ -10,7 +10,7 @@ use native.Mathlib.Omega.{arith}
 use lib.Dec.{ltb}
 use lib.ListN.{length}
 use borrow.Author.Tests.{ltb-false, lt-ltb, eqb-true, eq-eqb}
-use Rattle.numbers.specs.Laws.{InRange}
+use Rattle.numbers.proofs.Laws.{InRange}
 use Rattle.model.specs.declared.Slot.{Slot}
 use Rattle.model.specs.declared.Slot.TheVariants.{Unused, Constant, Variable, Bad}
 use Rattle.model.specs.declared.Expression.{Expression}

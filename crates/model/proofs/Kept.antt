@@ -12,7 +12,7 @@ use lib.IntN.{ℤ}
 use lib.Dec.{leb, ltb}
 use lib.ListN.{length, get_or, get_elem?, length-append, length-map}
 use borrow.Author.Tests.{ltb-true, leb-true}
-use Rattle.numbers.specs.Laws.{InRange}
+use Rattle.numbers.proofs.Laws.{InRange}
 use Rattle.model.specs.declared.FactId.{FactId}
 use Rattle.model.specs.declared.Symbol.{Symbol}
 use Rattle.model.specs.declared.Occurrence.{Occurrence}

@@ -13,7 +13,7 @@ use borrow.Author.Tests.{ltb-true, ltb-false}
 use Rattle.numbers.specs.declared.Value.{Value}
 use Rattle.numbers.specs.declared.Value.TheVariants.{Number, Undefined}
 use Rattle.numbers.specs.Numbers.{equal, evaluate}
-use Rattle.numbers.specs.Laws.{InRange, Ranged, ranged-number, ranged-undefined, evaluate-ranged}
+use Rattle.numbers.proofs.Laws.{InRange, Ranged, ranged-number, ranged-undefined, evaluate-ranged}
 use Rattle.model.specs.declared.FactId.{FactId}
 use Rattle.model.specs.declared.Symbol.{Symbol}
 use Rattle.model.specs.declared.Fact.{Fact}

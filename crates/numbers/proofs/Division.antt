@@ -16,7 +16,7 @@ use borrow.Author.Tests.{lt-ltb}
 use Rattle.numbers.specs.declared.Value.{Value}
 use Rattle.numbers.specs.declared.Value.TheVariants.{Number, Undefined}
 use Rattle.numbers.specs.Numbers.{lowest, highest, in_range, exact, equal, unless_zero, down, floor_z, mod_z, quotient_of, remainder_of}
-use Rattle.numbers.specs.Laws.{InRange, pos-ranged, negsuc-ranged, exact-number, unless-other}
+use Rattle.numbers.proofs.Laws.{InRange, pos-ranged, negsuc-ranged, exact-number, unless-other}
 
 -- ---- what is meant
 

@@ -2,3 +2,5 @@
 pub mod Division
 pub mod Machine
 pub mod Rounding
+pub mod Cases
+pub mod Laws

@@ -1,4 +1,3 @@
--- The definition of the numbers, the laws that other crates cite, and the worked cases.
+-- The definition of the numbers, and what their laws speak of.
 pub mod Numbers
 pub mod Laws
-pub mod Cases

@@ -7,7 +7,7 @@ use mathlib.Core.List.{List, [], ◌∷◌}
 use lib.IntN.{pos}
 use Rattle.model.proofs.Every.{every}
 use Rattle.grammar.specs.Tree.{Term, constant, Operation, sum, Formula, alone, applied, equal, HeadTree, ItemTree, fact, fail, TableTree}
-use Rattle.numbers.specs.Laws.{pos-ranged}
+use Rattle.numbers.proofs.Laws.{pos-ranged}
 use Rattle.grammar.specs.WellFormed.{TermGood}
 use Rattle.text.specs.Token.{Token, symbol, slot, compares, operates, mark, simplifies, bar, opens, closes, comma, stop, true_word, fail_word, TokenGood}
 use Rattle.parsing.specs.Classes.{the, slash}

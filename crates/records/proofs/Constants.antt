@@ -6,7 +6,7 @@ use mir.Facts.{to_z-of_z}
 use mir.Syntax.{w32}
 use mir.Val.{to_z, of_z}
 use Rattle.wire.specs.Wire.{signed_of}
-use Rattle.wire.specs.Laws.{signed-fits}
+use Rattle.wire.proofs.Laws.{signed-fits}
 use Rattle.model.specs.Slots.{slot_by}
 use Rattle.model.specs.declared.Slot.TheVariants.{Constant}
 

@@ -13,7 +13,7 @@ use lib.ListN.{length, get_or, length-set, replicate}
 use lib.Seq.{get_or-set_same, get_or-set_other}
 use borrow.Author.Tests.{eqb-true, eqb-false, eq-eqb, ltb-true}
 use Rattle.numbers.specs.Numbers.{equal}
-use Rattle.numbers.specs.Laws.{equal-same, equal-is}
+use Rattle.numbers.proofs.Laws.{equal-same, equal-is}
 use Rattle.numbers.specs.declared.Value.{Value}
 use Rattle.numbers.specs.declared.Value.TheVariants.{Number, Undefined}
 use Rattle.numbers.specs.declared.Truth.{Truth}

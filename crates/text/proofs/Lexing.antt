@@ -12,7 +12,7 @@ use lib.Dec.{ltb, leb, eqb}
 use lib.ListN.{length, get_or, drop, drop_of_length-le}
 use lib.Seq.{drop-cons, drop-drop}
 use borrow.Author.Tests.{leb-true, eqb-true}
-use Rattle.numbers.specs.Laws.{InRange, pos-ranged, negsuc-ranged}
+use Rattle.numbers.proofs.Laws.{InRange, pos-ranged, negsuc-ranged}
 use Rattle.model.proofs.Every.{every}
 use Rattle.grammar.specs.Tree.{variable}
 use Rattle.text.proofs.Bytes.{no-test, and-left, and-right}

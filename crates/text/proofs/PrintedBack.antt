@@ -6,7 +6,7 @@ use mathlib.Core.Path.{◌≡◌, refl, sym, ap, ◌∙◌}
 use mathlib.Core.Bool.{Bool, true, false}
 use mathlib.Core.List.{List, [], ◌∷◌, ◌++◌, append_assoc}
 use lib.IntN.{pos}
-use Rattle.numbers.specs.Laws.{InRange}
+use Rattle.numbers.proofs.Laws.{InRange}
 use Rattle.model.proofs.Every.{every, every-left, every-right}
 use Rattle.grammar.specs.Tree.{constant, Operation, sum, difference, product, quotient, remainder, Comparator, equal, unequal, less, at_most, greater}
 use Rattle.grammar.specs.Tree.{at_least, TableTree}

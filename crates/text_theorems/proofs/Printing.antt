@@ -4,7 +4,7 @@ use native.Mathlib.Omega.{arith}
 use mathlib.Core.Path.{sym}
 use mathlib.Core.List.{List, [], ◌∷◌, ◌++◌}
 use lib.ListN.{length}
-use Rattle.numbers.specs.Laws.{pos-ranged}
+use Rattle.numbers.proofs.Laws.{pos-ranged}
 use Rattle.model.proofs.Every.{every, every-append, every-weaken}
 use Rattle.grammar.specs.Tree.{Term, Formula, alone, applied, HeadTree, GuardTree, ItemTree, fact, fail, RuleTree, TableTree, heads_of, head_terms}
 use Rattle.grammar.specs.WellFormed.{TermGood, FormulaGood, HeadGood, GuardGood, ItemGood, RuleGood, WellFormed}

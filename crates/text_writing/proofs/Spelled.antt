@@ -9,7 +9,7 @@ use mir.Syntax.{w32}
 use mir.Val.{SFits, to_z, of_z}
 use mir.Facts.{to_z-of_z}
 use Rattle.wire.specs.Wire.{signed_of, bits_of}
-use Rattle.wire.specs.Laws.{signed-low, signed-high, signed-bits, bits-below}
+use Rattle.wire.proofs.Laws.{signed-low, signed-high, signed-bits, bits-below}
 use Rattle.model.specs.declared.Slot.{Slot}
 use Rattle.model.specs.declared.Slot.TheVariants.{Unused, Constant, Variable, Bad}
 use Rattle.model.specs.declared.Expression.{Expression}

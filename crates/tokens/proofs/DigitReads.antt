@@ -14,7 +14,7 @@ use mir.Facts.{to_z_pos}
 use mir.Syntax.{w32}
 use mir.Val.{to_z}
 use Rattle.wire.proofs.Machine.{down}
-use Rattle.numbers.specs.Laws.{pos-ranged}
+use Rattle.numbers.proofs.Laws.{pos-ranged}
 use Rattle.text.specs.Spelling.{is_digit, is_word_byte, run, digits, value_from, value, negative, Found, nothing, constant_of, negated}
 use Rattle.text.proofs.Bytes.{no-test, digit-word}
 use Rattle.text.proofs.Lexing.{run-some, negative-ranged}

@@ -1,2 +1,3 @@
 -- The laws that the proofs of `wire` share.
 pub mod Machine
+pub mod Laws

@@ -1,3 +1,3 @@
--- The definition of words in bytes, and the laws that other crates cite.
+-- The definition of words in bytes, and what their laws speak of.
 pub mod Wire
 pub mod Laws

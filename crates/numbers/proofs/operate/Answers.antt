@@ -13,23 +13,23 @@ returns-in-0 c = simp (c.in-0.is, to_z-of_z c.ranges.a)
 
 pub returns-in-1 : goal.returns-in-1
 unfolding operate
-returns-in-1 c = let s = c in c.sum.ensures ∙ simp (c.in-1.is, to_z-of_z s.ranges.a, to_z-of_z s.ranges.b)
+returns-in-1 c = rw c.in-1.is (cc (to_z-of_z c.ranges.a, to_z-of_z c.ranges.b))
 
 pub returns-in-2 : goal.returns-in-2
 unfolding operate
-returns-in-2 c = let s = c in c.difference.ensures ∙ simp (c.in-2.is, to_z-of_z s.ranges.a, to_z-of_z s.ranges.b)
+returns-in-2 c = rw c.in-2.is (cc (to_z-of_z c.ranges.a, to_z-of_z c.ranges.b))
 
 pub returns-in-3 : goal.returns-in-3
 unfolding operate
-returns-in-3 c = let s = c in c.product.ensures ∙ simp (c.in-3.is, to_z-of_z s.ranges.a, to_z-of_z s.ranges.b)
+returns-in-3 c = rw c.in-3.is (cc (to_z-of_z c.ranges.a, to_z-of_z c.ranges.b))
 
 pub returns-in-4 : goal.returns-in-4
 unfolding operate
-returns-in-4 c = let s = c in c.quotient.ensures ∙ simp (c.in-4.is, to_z-of_z s.ranges.a, to_z-of_z s.ranges.b)
+returns-in-4 c = rw c.in-4.is (cc (to_z-of_z c.ranges.a, to_z-of_z c.ranges.b))
 
 pub returns-in-5 : goal.returns-in-5
 unfolding operate
-returns-in-5 c = let s = c in c.remainder.ensures ∙ simp (c.in-5.is, to_z-of_z s.ranges.a, to_z-of_z s.ranges.b)
+returns-in-5 c = rw c.in-5.is (cc (to_z-of_z c.ranges.a, to_z-of_z c.ranges.b))
 
 pub returns-in_default : goal.returns-in_default
 unfolding operate

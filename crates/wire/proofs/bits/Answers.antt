@@ -8,7 +8,7 @@ use mir.Facts.{to_z-of_z}
 use mir.Syntax.{w32}
 use mir.Val.{SFits, to_z, of_z}
 use Rattle.wire.specs.Wire.{bits_of}
-use Rattle.wire.specs.Laws.{bits-below}
+use Rattle.wire.proofs.Laws.{bits-below}
 use Rattle.wire.proofs.Machine.{up, bits-up, bits-kept}
 use Rattle.wire.proofs.bits.Goals as goal
 use Rattle.wire.proofs.bits.Goals.{Else-v-lt0, Then-v-lt0}

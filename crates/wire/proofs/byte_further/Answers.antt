@@ -3,7 +3,7 @@
 use borrow.Author.Rules.{rules}
 use Prim.Native.Nat.{◌+◌}
 use native.Mathlib.Omega.{arith}
-use Rattle.wire.specs.Laws.{past-end}
+use Rattle.wire.proofs.Laws.{past-end}
 use Rattle.wire.proofs.byte_further.Goals as goal
 
 pub returns-then-s-at : goal.returns-then-s-at

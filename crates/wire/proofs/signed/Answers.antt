@@ -8,7 +8,7 @@ use lib.IntN.{ℤ, negsuc, ◌-ℤ◌}
 use mir.Facts.{to_z-of_z, to_z_pos}
 use mir.Syntax.{w32}
 use mir.Val.{SFits, to_z}
-use Rattle.wire.specs.Laws.{signed-low, signed-high}
+use Rattle.wire.proofs.Laws.{signed-low, signed-high}
 use Rattle.wire.proofs.Machine.{down}
 use Rattle.wire.proofs.signed.Goals as goal
 
