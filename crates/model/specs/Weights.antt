@@ -40,7 +40,7 @@ unfoldable pub most_facts : List Rule → ℕ
 most_facts [] = 0
 most_facts (r ∷ rs) = max (body_facts r.body) (most_facts rs)
 
--- (G + B-as-W)·(M + 2) + W + 1
+-- (G + B·W)·(M + 2) + W + 1
 unfoldable pub step_bound : ℕ → ℕ → ℕ → ℕ → ℕ
 step_bound G B W M = (G + B * W) * (M + 2) + W + 1
 

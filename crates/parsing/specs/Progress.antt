@@ -22,7 +22,7 @@ pub data Side : Type 0 where
   argument_of : Guarded → List ItemTree → ℕ → List Formula → Side
 
 pub data Progress : Type 0 where
-  -- behind the declarations of these arities; then `s_k`, `s_k/`, and `s_k/A` with the arity A at the front
+  -- behind the declarations of these arities; then `sK`, `sK/`, and `sK/A` with the arity A at the front
   declared : List ℕ → Progress
   named : List ℕ → ℕ → Progress
   slashed : List ℕ → Progress

@@ -1,4 +1,4 @@
-// The step bound of a weighing, (G + B.W)·(M + 2) + W + 1, and what it is made of: G of a goal, B and M of a table.
+// The step bound of a weighing, (G + B·W)·(M + 2) + W + 1, and what it is made of: G of a goal, B and M of a table.
 #![tactic(auto)]
 
 pub mod bodies;
@@ -21,7 +21,7 @@ pub fn fact_count(goal: &[u8]) -> u32
     (goal.len() / Goal::RECORD_LEN) as u32
 }
 
-// (G + B.W)·(M + 2) + W + 1
+// (G + B·W)·(M + 2) + W + 1
 pub fn step_bound(facts: u32, body: u32, weight: u32, places: u32) -> u32
     requires { (facts ≤ 64) × (body ≤ 4) × (weight ≤ 16320) × (places ≤ 256) }
     ensures { result ≡ step_bound facts body weight places }
