@@ -9,7 +9,7 @@ use Rattle.model.proofs.Every.{every, every-append, every-weaken}
 use Rattle.grammar.specs.Tree.{Term, Formula, alone, applied, HeadTree, GuardTree, ItemTree, fact, fail, RuleTree, TableTree, heads_of, head_terms}
 use Rattle.grammar.specs.WellFormed.{TermGood, FormulaGood, HeadGood, GuardGood, ItemGood, RuleGood, WellFormed}
 use Rattle.grammar.proofs.Parts.{uses-few}
-use Rattle.text.specs.Token.{Token, symbol, compares, mark, backslash, simplifies, propagates, bar, closes, stop, TokenGood}
+use Rattle.text.specs.Token.{Token, compares, mark, backslash, simplifies, propagates, bar, closes, stop, TokenGood}
 use Rattle.text.specs.Text.{more_tokens, list_tokens, bracket_tokens, each_tokens, term_tokens, formula_tokens, head_tokens, guard_tokens, item_tokens, heads_tokens}
 use Rattle.text.specs.Text.{guards_tokens, body_tokens, rule_tokens, declaration_tokens, declarations_tokens, text_tokens, ItemShaped, RuleShaped, Shaped}
 use Rattle.text.specs.Printed.{printed}

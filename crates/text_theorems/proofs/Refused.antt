@@ -43,6 +43,7 @@ three-low (Memᴰ.head e) = omega arith
 three-low (Memᴰ.tail (Memᴰ.head e)) = omega arith
 three-low (Memᴰ.tail (Memᴰ.tail (Memᴰ.head e))) = omega arith
 three-low (Memᴰ.tail (Memᴰ.tail (Memᴰ.tail (Memᴰ.head e)))) = omega arith
+three-low (Memᴰ.tail (Memᴰ.tail (Memᴰ.tail (Memᴰ.tail m)))) = elim m [ ]
 
 check-low : (text : List ℕ) (w : TableTree) → TextOf text w → (check_of (encode w)).number ≤ 22
 check-low text w x = three-low (only-19-20-22 w x.spells.shaped)
