@@ -1,5 +1,4 @@
 -- `from_place` meets its contract: a look through the heads below the place, then through the rules behind its own.
-use native.Mathlib.Omega.{arith}
 use Rattle.occurrences.proofs.Counting.{rule-among, its-rule, below-lie, below-found, below-passed}
 use Rattle.occurrences.proofs.from_place.Goals as goal
 
@@ -8,9 +7,6 @@ shape_at-shape-requires c = rule-among c.requires.0 (its-rule c.requires.0 c.req
 
 pub in_rule-look-requires : goal.in_rule-look-requires
 in_rule-look-requires c = below-lie c.requires.0 c.requires.1 c.shape_at-shape.ensures
-
-pub overflow_add-rule : goal.overflow_add-rule
-overflow_add-rule c = record { fits = omega (arith, rule-among c.requires.0 (its-rule c.requires.0 c.requires.1)) }
 
 pub returns-in-Found : goal.returns-in-Found
 returns-in-Found c = below-found c.requires.0 c.requires.1 c.shape_at-shape.ensures c.in_rule-look.ensures c.in-Found.is

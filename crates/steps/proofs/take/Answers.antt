@@ -34,27 +34,9 @@ pub decide-decision-requires : goal.decide-decision-requires
 decide-decision-requires c =
     asks c.requires c.loop-k.invariant.run c.if-depth-eq0.false _ c.place_of_entry-found.ensures c.rule_found.ensures c.shape_at-shape.ensures
 
-pub overflow_add-given : goal.overflow_add-given
-overflow_add-given c =
-    let r = c.loop-k.invariant.run in
-    record { fits = omega (arith, r.given_few, r.steps, r.legal) }
-
 pub put-requires : goal.put-requires
 put-requires c =
     store-room c.loop-k.invariant.run c.loop-k-test.true c.if-depth-eq0.false c.decide-decision.ensures c.in-Activate.is
-
-pub overflow_add-stored : goal.overflow_add-stored
-overflow_add-stored c =
-    omega (arith, store-room c.loop-k.invariant.run c.loop-k-test.true c.if-depth-eq0.false c.decide-decision.ensures c.in-Activate.is)
-
-pub offset_bounds-entries-top-in-Activate : goal.offset_bounds-entries-top-in-Activate
-offset_bounds-entries-top-in-Activate c = omega (arith, c.loop-k.invariant.run.deep, c.if-depth-eq0.false)
-
-pub bounds-entries-top-in-Activate : goal.bounds-entries-top-in-Activate
-bounds-entries-top-in-Activate c = omega (arith, c.loop-k.invariant.run.deep, c.if-depth-eq0.false)
-
-pub loop-k-smaller-in-Activate : goal.loop-k-smaller-in-Activate
-loop-k-smaller-in-Activate c = omega (arith, c.loop-k-test.true)
 
 pub loop-k-preserved-in-Activate : goal.loop-k-preserved-in-Activate
 loop-k-preserved-in-Activate c = record {
@@ -63,23 +45,11 @@ loop-k-preserved-in-Activate c = record {
   marked = mark-follows c.loop-k.invariant.marked _ _ _ c.place_of_entry-found.ensures c.mark_of_entry-mark.ensures;
 }
 
-pub loop-k-smaller-in-Drop : goal.loop-k-smaller-in-Drop
-loop-k-smaller-in-Drop c = omega (arith, c.loop-k-test.true)
-
 pub loop-k-preserved-in-Drop : goal.loop-k-preserved-in-Drop
 loop-k-preserved-in-Drop c = record {
   run = drops c.loop-k.invariant.run c.loop-k-test.true c.if-depth-eq0.false c.decide-decision.ensures c.in-Drop.is;
   marked = mark-follows c.loop-k.invariant.marked _ _ _ c.place_of_entry-found.ensures c.mark_of_entry-mark.ensures;
 }
-
-pub offset_bounds-entries-top-in-Default : goal.offset_bounds-entries-top-in-Default
-offset_bounds-entries-top-in-Default c = omega (arith, c.loop-k.invariant.run.deep, c.if-depth-eq0.false)
-
-pub bounds-entries-top-in-Default : goal.bounds-entries-top-in-Default
-bounds-entries-top-in-Default c = omega (arith, c.loop-k.invariant.run.deep, c.if-depth-eq0.false)
-
-pub loop-k-smaller-in-Default : goal.loop-k-smaller-in-Default
-loop-k-smaller-in-Default c = omega (arith, c.loop-k-test.true)
 
 pub loop-k-preserved-in-Default : goal.loop-k-preserved-in-Default
 loop-k-preserved-in-Default c = record {
@@ -118,20 +88,11 @@ loop-left-preserved c = record {
   marked = c.loop-left.invariant.marked;
 }
 
-pub bounds-past-noted : goal.bounds-past-noted
-bounds-past-noted c = omega (arith, c.loop-left.invariant.run.fits.history_fits c.if-kept-all.true)
-
-pub loop-k-smaller-then-kept-all : goal.loop-k-smaller-then-kept-all
-loop-k-smaller-then-kept-all c = omega (arith, c.loop-left.invariant.run.more)
-
 pub loop-k-preserved-then-kept-all : goal.loop-k-preserved-then-kept-all
 loop-k-preserved-then-kept-all c = record {
   run = propagates c.loop-left.invariant.run c.loop-left-test.false c.if-kept-all.true _ c.entry-then-kept-all.ensures;
   marked = c.loop-left.invariant.marked;
 }
-
-pub loop-k-smaller : goal.loop-k-smaller
-loop-k-smaller c = omega (arith, c.loop-left.invariant.run.more)
 
 pub loop-k-preserved : goal.loop-k-preserved
 loop-k-preserved c = record {
@@ -139,16 +100,10 @@ loop-k-preserved c = record {
   marked = c.loop-left.invariant.marked;
 }
 
-pub ended-requires-in-Fail : goal.ended-requires-in-Fail
-ended-requires-in-Fail c = c.loop-k.invariant.run.few
-
 pub returns-in-Fail : goal.returns-in-Fail
 returns-in-Fail c =
     by-result c.ended-in-Fail.ensures
     (failed c.loop-k.invariant.run c.loop-k-test.true c.if-depth-eq0.false c.decide-decision.ensures c.in-Fail.is)
-
-pub ended-requires-in-Stop : goal.ended-requires-in-Stop
-ended-requires-in-Stop c = c.loop-k.invariant.run.few
 
 pub returns-in-Stop : goal.returns-in-Stop
 returns-in-Stop c =
