@@ -15,7 +15,8 @@ use Rattle.assembly.specs.declared.Phase.{Phase}
 use Rattle.assembly.specs.declared.Phase.TheVariants.{Declared, Named, Slashed, Sized, Ruled, HeadNamed, HeadWants, HeadSlot, HeadDone, HeadNext}
 use Rattle.assembly.specs.declared.Phase.TheVariants.{Headed, Wants, Term, Operated, Formed, Body, Emptied, ItemNamed, ItemDone, ItemNext, Stuck}
 use Rattle.assembly.specs.declared.Assembly.{Assembly}
-use Rattle.assembly.specs.Moves.{Move, move, Moved, only, behind_head, behind_symbol, behind_formula, moves_of, by, along, moved, moved_by, beginning, slashed_by}
+use Rattle.assembly.specs.Moves.{Move, move, Moved, only, behind_head, behind_symbol, behind_formula, moves_of, by, along, moved, moved_by, beginning}
+use Rattle.assembly.specs.Moves.{slashed_by}
 
 -- every move ends at n or before
 abbrev AllNear : ℕ → List Move → Type 0

@@ -13,7 +13,8 @@ use Rattle.grammar.specs.Tree.{TableTree}
 use Rattle.grammar.specs.Encode.{symbol_bytes}
 use Rattle.text.specs.Token.{Token}
 use Rattle.parsing.specs.Classes.{slash, slash_said}
-use Rattle.parsing.specs.Progress.{first, Progress, declared, named, slashed, sized, ruled, head_named, head_wants, head_slot, head_done, head_next, headed, wants}
+use Rattle.parsing.specs.Progress.{first, Progress, declared, named, slashed, sized, ruled, head_named, head_wants, head_slot, head_done, head_next}
+use Rattle.parsing.specs.Progress.{headed, wants}
 use Rattle.parsing.specs.Progress.{term, operated, formed, body, emptied, item_named, item_done, item_next, table_with, guarded}
 use Rattle.parsing.specs.Edges as reading
 use Rattle.parsing.specs.Edges.{edge, edges_of, step}

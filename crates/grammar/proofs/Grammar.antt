@@ -13,7 +13,8 @@ use Rattle.model.specs.declared.RuleShape.{RuleShape}
 use Rattle.model.specs.declared.Verdict.TheVariants.{Good}
 use Rattle.model.specs.Fields.{arity_at, head_bad}
 use Rattle.model.specs.Reading.{read_of}
-use Rattle.model.specs.Table.{Head, head_at, guard_at, is_fact, item_at, behind_item, heads_from, guards_from, items_from, heads_start, guards_start, items_start}
+use Rattle.model.specs.Table.{Head, head_at, guard_at, is_fact, item_at, behind_item, heads_from, guards_from, items_from, heads_start, guards_start}
+use Rattle.model.specs.Table.{items_start}
 use Rattle.model.specs.Table.{rule_of, Guard, body_fact, body_fail, symbol_at, table_by, table_of}
 use Rattle.model.proofs.Every.{every}
 use Rattle.model.proofs.Lists.{or-false-left, or-false-right}
@@ -169,7 +170,8 @@ module _ (t : List ℕ) (u : AreBytes t) (arities : List ℕ) (declared : (k : �
         record {
           symbol = f.uses;
           formulas = f.good;
-          known = any-laid expression_of no_expression (expression_strange t start heads) (FormulaKnown (head_terms hs)) (known-formula t start heads hs read) 4 es
+          known = any-laid expression_of no_expression (expression_strange t start heads) (FormulaKnown (head_terms hs))
+              (known-formula t start heads hs read) 4 es
               (uses-few arities small (get_or t (p + 1) 0) (length es) f.uses) q;
         }
 
@@ -185,7 +187,8 @@ module _ (t : List ℕ) (u : AreBytes t) (arities : List ℕ) (declared : (k : �
         go (inl e) later =
             let k = six-fact t p e in
             let es = used_of formulas_in (formulas_at t p) in
-            let item : item_tree (item_at t p) ≡ fact (get_or t (p + 1) 0) es = ap item_tree (item-fact t p k) ∙ fact-tree (symbol_at t (p + 1)) (formulas_at t p) in
+            let item : item_tree (item_at t p) ≡ fact (get_or t (p + 1) 0) es =
+            ap item_tree (item-fact t p k) ∙ fact-tree (symbol_at t (p + 1)) (formulas_at t p) in
             rw item
             (written-more item_bytes (ItemGood arities (head_terms hs)) t p (behind_item t p) q (fact (get_or t (p + 1) 0) es) _
             (fact-encodes t u p (get_or t (p + 1) 0) es e (fact-fits t arities declared small u p (w.0.fields k)).reads)
@@ -203,7 +206,8 @@ module _ (t : List ℕ) (u : AreBytes t) (arities : List ℕ) (declared : (k : �
     pub good : RuleGood arities w
 
   module _ (r : RuleShape) (q : ℕ) (g : GoodRule t (length arities) r) (w : RuleWhole t (length arities) r q) where
-    kept-written : Written (head_bytes 3) (HeadGood arities) t (heads_start r) (heads_start r + 22 * r.kept) (map head_tree (heads_from t (heads_start r) r.kept))
+    kept-written : Written (head_bytes 3) (HeadGood arities) t (heads_start r) (heads_start r + 22 * r.kept)
+        (map head_tree (heads_from t (heads_start r) r.kept))
     kept-written = heads-written 3 (heads_start r) r.kept w.kept (λ i h. w.heads i (omega (arith, g.kept_few)))
 
     removed-written : Written (head_bytes 4) (HeadGood arities) t (heads_start r + 22 * r.kept) (heads_start r + 22 * r.kept + 22 * (r.heads - r.kept))

@@ -336,7 +336,8 @@ fact-decodes t p s es g q =
     record {
       symbol = same-first t (p + 1) s placed rest;
       formulas =
-          places-decode formula_bytes 11 expression_of no_expression t (expression_at t) formula-long FormulaGood (formula-decodes t) (none-decodes t) (p + 2) 4 es
+          places-decode formula_bytes 11 expression_of no_expression t (expression_at t) formula-long FormulaGood (formula-decodes t) (none-decodes t)
+          (p + 2) 4 es
           g
           (same-at t (p + 1 + 1) (p + 2) placed (omega arith) (same-rest t (p + 1) s placed rest));
     }
@@ -346,7 +347,8 @@ unfolding item_bytes
 fact-encodes t u p s es k q =
     let placed = places_bytes formula_bytes 11 4 es in
     let there : Same t (p + 2) placed =
-    places-encode formula_bytes 11 expression_of no_expression t (expression_at t) formula-long (formula-encodes t u) (none-encodes t) (p + 2) 4 es q.formulas in
+    places-encode formula_bytes 11 expression_of no_expression t (expression_at t) formula-long (formula-encodes t u) (none-encodes t)
+    (p + 2) 4 es q.formulas in
     same-more t p 6 (s ∷ placed) k (same-more t (p + 1) s placed q.symbol (same-at t (p + 2) (p + 1 + 1) placed (omega arith) there))
 
 pub fact-laid : (t : List ℕ) (p s : ℕ) (es : List Formula) → is_fact t p ≡ true → FactReads t p s es → item_at t p ≡ laid_item (fact s es)

@@ -288,7 +288,8 @@ module _ {A B : Type 0} (lay : A → B) (blank : B) (f : B → Bool) (Known : A 
   laid-any used unused (suc n) [] u = or-both (f blank) _ unused (laid-any used unused n [] tt)
   laid-any used unused (suc n) (x ∷ xs) u = or-both (f (lay x)) _ (used x u.0) (laid-any used unused n xs u.1)
 
-  pub any-laid : ((x : A) → f (lay x) ≡ false → Known x) → (n : ℕ) (xs : List A) → length xs ≤ n → any_of f (laid_places lay blank n xs) ≡ false → every Known xs
+  pub any-laid : ((x : A) → f (lay x) ≡ false → Known x) → (n : ℕ) (xs : List A) → length xs ≤ n → any_of f (laid_places lay blank n xs) ≡ false
+      → every Known xs
   unfolding laid_places
   any-laid known zero [] l e = tt
   any-laid known zero (x ∷ xs) l e = absurd (omega arith)

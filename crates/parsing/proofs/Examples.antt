@@ -7,7 +7,8 @@ use mathlib.Core.List.{List, [], ◌∷◌}
 use lib.IntN.{pos}
 use Rattle.grammar.specs.Tree.{constant, variable, difference, applied, fact, TableTree}
 use Rattle.grammar.proofs.Examples.{tree_a}
-use Rattle.text.specs.Spelling.{is_blank, is_digit, is_word_byte, run, digits, value_from, value, negative, index_of, begins, indexed, constant_of, keyword, word}
+use Rattle.text.specs.Spelling.{is_blank, is_digit, is_word_byte, run, digits, value_from, value, negative, index_of, begins, indexed, constant_of}
+use Rattle.text.specs.Spelling.{keyword, word}
 use Rattle.text.specs.Spelling.{negated, signs, sign_of, token_at}
 use Rattle.text.specs.Tokens.{lexed_by, lexed_from, lexed}
 use Rattle.parsing.specs.Progress.{table_with}

@@ -9,7 +9,8 @@ use Rattle.model.proofs.Every.{every, every-left, every-right}
 use Rattle.grammar.specs.Tree.{Term, Formula, alone, applied, HeadTree, GuardTree, ItemTree, fact, fail, RuleTree, TableTree}
 use Rattle.grammar.specs.WellFormed.{TermGood, FormulaGood}
 use Rattle.text.specs.Token.{Token, compares, mark, backslash, simplifies, propagates, bar, closes, stop, TokenGood}
-use Rattle.text.specs.Text.{more_tokens, list_tokens, bracket_tokens, each_tokens, term_tokens, formula_tokens, head_tokens, guard_tokens, item_tokens, heads_tokens}
+use Rattle.text.specs.Text.{more_tokens, list_tokens, bracket_tokens, each_tokens, term_tokens, formula_tokens, head_tokens, guard_tokens}
+use Rattle.text.specs.Text.{item_tokens, heads_tokens}
 use Rattle.text.specs.Text.{guards_tokens, body_tokens, rule_tokens, declaration_tokens, declarations_tokens, text_tokens}
 use Rattle.text.specs.Tokens.{Lexed, tokens_in}
 use Rattle.parsing.specs.Parsed.{tree, parsed}

@@ -153,7 +153,8 @@ kind-at : (b : ℕ) (bs : List ℕ) (k : Kind) → kind_of b ≡ k → (t : List
 kind-at b bs k e t p a = ap kind_of (same-first t p b bs a.same) ∙ e
 
 -- a part that begins with the byte b, of kind k
-part-with : (b : ℕ) (bs : List ℕ) (last : ℕ) (k : Kind) → kind_of b ≡ k → length (b ∷ bs) ≡ size_of k → (1 ≤ size_of k) × (earliest_of k ≤ 1) × (last ≤ latest_of k)
+part-with : (b : ℕ) (bs : List ℕ) (last : ℕ) (k : Kind) → kind_of b ≡ k → length (b ∷ bs) ≡ size_of k
+    → (1 ≤ size_of k) × (earliest_of k ≤ 1) × (last ≤ latest_of k)
     → ((s : Scan) → (s' : Scan) × (behind s k ≡ Next s') × (s'.at ≡ s.at + size_of k) × (s'.stage ≡ last)) → Part (b ∷ bs) last k
 part-with b bs last k e long places goes = record {
   kind = kind-at b bs k e;

@@ -5,7 +5,8 @@ use mathlib.Core.List.{List, [], ◌∷◌, ◌++◌, map, reverse, reverse_aux,
 use lib.ListN.{length}
 use Rattle.grammar.specs.Tree.{Term, Formula, alone, applied, HeadTree, GuardTree, ItemTree, fact, fail, TableTree}
 use Rattle.text.specs.Token.{Token, symbol, compares, mark, backslash, simplifies, propagates, bar, opens, closes, comma, stop}
-use Rattle.text.specs.Text.{more_tokens, list_tokens, bracket_tokens, each_tokens, term_tokens, formula_tokens, head_tokens, guard_tokens, item_tokens, heads_tokens}
+use Rattle.text.specs.Text.{more_tokens, list_tokens, bracket_tokens, each_tokens, term_tokens, formula_tokens, head_tokens, guard_tokens}
+use Rattle.text.specs.Text.{item_tokens, heads_tokens}
 use Rattle.text.specs.Text.{guards_tokens, body_tokens, rule_tokens, declaration_tokens, declarations_tokens, text_tokens}
 use Rattle.parsing.specs.Parsed.{head_forward, item_forward, rule_forward, forward}
 use Rattle.parsing.proofs.Consumed.{more_read, list_read, bracket_read, each_read, term_read, formula_read, head_read, guard_read, item_read, heads_read}
@@ -58,7 +59,8 @@ module _ {A : Type 0} (read : A → List Token → List Token) (tokens : A → L
   turns-bracket [] rest after = refl
   turns-bracket (x ∷ xs) rest after =
       turns-list (x ∷ xs) (mark opens ∷ rest) (mark closes ∷ after)
-      ∙ ap (λ (l : List Token). reverse_aux rest (mark opens ∷ l)) (sym (append_assoc (list_tokens tokens (reverse (map fw (x ∷ xs)))) (mark closes ∷ []) after))
+      ∙ ap (λ (l : List Token). reverse_aux rest (mark opens ∷ l))
+      (sym (append_assoc (list_tokens tokens (reverse (map fw (x ∷ xs)))) (mark closes ∷ []) after))
       ∙ ap (λ (l : List Token). reverse_aux rest (l ++ after))
       (turned-some (λ l. mark opens ∷ (list_tokens tokens l ++ (mark closes ∷ [])) ≡ bracket_tokens tokens l) bracket-some (map fw xs) (fw x) [])
 
@@ -161,7 +163,8 @@ guards-some : (g : GuardTree) (gs : List GuardTree) → list_tokens guard_tokens
 unfolding guards_tokens
 guards-some g gs = refl
 
-turns-guards : (gs : List GuardTree) (rest after : List Token) → reverse_aux (guards_read gs rest) after ≡ reverse_aux rest (guards_tokens (reverse gs) ++ after)
+turns-guards : (gs : List GuardTree) (rest after : List Token)
+    → reverse_aux (guards_read gs rest) after ≡ reverse_aux rest (guards_tokens (reverse gs) ++ after)
 unfolding guards_tokens
 turns-guards [] rest after = refl
 turns-guards (g ∷ gs) rest after =

@@ -158,7 +158,8 @@ module _ (text s : List ℕ) where
   text-long h e = rw (lt-ltb 65536 (length text) h, e) (record { result = refl; length = refl; bytes = refl })
 
   module _ (short : length text ≤ 65536) where
-    by-parsed : {q : Parsed} {r : TextRead} {s' : List ℕ} → parsed (lexed text) ≡ q → TextGiven (read_parsed text s q) r s' → TextGiven (read_text_of text s) r s'
+    by-parsed : {q : Parsed} {r : TextRead} {s' : List ℕ} → parsed (lexed text) ≡ q → TextGiven (read_parsed text s q) r s'
+        → TextGiven (read_text_of text s) r s'
     unfolding read_text_of
     by-parsed e g = rw (le-ltb 65536 (length text) short, e) g
 

@@ -72,7 +72,8 @@ unfolding behind
 behind-long bytes b [] = omega arith
 behind-long bytes b (x ∷ xs) = omega (arith, behind-long bytes b xs, length-append (behind bytes b xs) (bytes x))
 
-group-long : (g : reading.Group) (hs : List Rattle.grammar.specs.Tree.HeadTree) (n : ℕ) → length (heads_front g hs) ≤ n → n ≤ 8589934592 → GroupNear (group_of g)
+group-long : (g : reading.Group) (hs : List Rattle.grammar.specs.Tree.HeadTree) (n : ℕ) → length (heads_front g hs) ≤ n → n ≤ 8589934592
+    → GroupNear (group_of g)
 unfolding behind
 group-long (first w) hs n h k =
     omega (arith, behind-long (head_of 3) (rule_front w) hs, length-append (table_bytes w) (2 ∷ []))

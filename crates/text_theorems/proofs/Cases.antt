@@ -65,7 +65,8 @@ module _ (text table : List ℕ) where
       pub read-no-room : length table < length (encode w) → read_text_of text table ≡ read_refused text table (refusal 51 0)
       read-no-room h = read-tree ∙ room-short (encode w) h
 
-      pub read-bad : length (encode w) ≤ length table → 1 ≤ (check_of (encode w)).number → read_text_of text table ≡ read_refused text table (check_of (encode w))
+      pub read-bad : length (encode w) ≤ length table → 1 ≤ (check_of (encode w)).number
+          → read_text_of text table ≡ read_refused text table (check_of (encode w))
       read-bad h b = read-tree ∙ room-enough (encode w) h ∙ checked-bad (encode w) b
 
       pub read-good : length (encode w) ≤ length table → (check_of (encode w)).number ≡ 0 → read_text_of text table ≡ read_written text table (encode w)

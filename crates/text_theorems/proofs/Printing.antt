@@ -10,7 +10,8 @@ use Rattle.grammar.specs.Tree.{Term, Formula, alone, applied, HeadTree, GuardTre
 use Rattle.grammar.specs.WellFormed.{TermGood, FormulaGood, HeadGood, GuardGood, ItemGood, RuleGood, WellFormed}
 use Rattle.grammar.proofs.Parts.{uses-few}
 use Rattle.text.specs.Token.{Token, compares, mark, backslash, simplifies, propagates, bar, closes, stop, TokenGood}
-use Rattle.text.specs.Text.{more_tokens, list_tokens, bracket_tokens, each_tokens, term_tokens, formula_tokens, head_tokens, guard_tokens, item_tokens, heads_tokens}
+use Rattle.text.specs.Text.{more_tokens, list_tokens, bracket_tokens, each_tokens, term_tokens, formula_tokens, head_tokens, guard_tokens}
+use Rattle.text.specs.Text.{item_tokens, heads_tokens}
 use Rattle.text.specs.Text.{guards_tokens, body_tokens, rule_tokens, declaration_tokens, declarations_tokens, text_tokens, ItemShaped, RuleShaped, Shaped}
 use Rattle.text.specs.Printed.{printed}
 use Rattle.text.proofs.PrintedBack.{printed-back}

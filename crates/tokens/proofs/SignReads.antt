@@ -166,7 +166,8 @@ module _ (text : List ℕ) (at : ℕ) (inside : at < length text) where
   unfolding sign_of signs begins operation_of
   remainder-read e = single 37 (Operates 5) e (λ rest. refl) (omega arith)
 
-  pub none-read : (get_or text at 0 ≡ 60 → ⊥) → (get_or text at 0 ≡ 61 → ⊥) → (get_or text at 0 ≡ 62 → ⊥) → (get_or text at 0 ≡ 92 → ⊥) → (get_or text at 0 ≡ 124 → ⊥)
+  pub none-read : (get_or text at 0 ≡ 60 → ⊥) → (get_or text at 0 ≡ 61 → ⊥) → (get_or text at 0 ≡ 62 → ⊥) → (get_or text at 0 ≡ 92 → ⊥)
+      → (get_or text at 0 ≡ 124 → ⊥)
       → (get_or text at 0 ≡ 40 → ⊥) → (get_or text at 0 ≡ 41 → ⊥) → (get_or text at 0 ≡ 44 → ⊥) → (get_or text at 0 ≡ 46 → ⊥) → (get_or text at 0 ≡ 43 → ⊥)
       → (get_or text at 0 ≡ 45 → ⊥) → (get_or text at 0 ≡ 42 → ⊥) → (get_or text at 0 ≡ 47 → ⊥) → (get_or text at 0 ≡ 37 → ⊥)
       → Reads (sign_of signs (drop at text)) Nothing

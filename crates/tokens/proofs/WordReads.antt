@@ -188,7 +188,8 @@ module _ (text : List ℕ) (at : ℕ) (letter : ℕ) {a : ℕ} (first : a ≡ by
           name-none letter (behind text at) (λ most. no-digits most _ _
           (rw run-2 (digits-no-second (run (drop 2 (behind text at))) (behind text at) (rw byte-1 (sym e ∙ not-true _ t)))))
 
-      module _ {s : Bool} (digit' : s ≡ is_digit b) (is' : not s ≡ false) {x : ℕ} (third : x ≡ byte_at text (at + 3)) {v : Bool} (word' : v ≡ is_word_byte x) where
+      module _ {s : Bool} (digit' : s ≡ is_digit b) (is' : not s ≡ false) {x : ℕ} (third : x ≡ byte_at text (at + 3))
+          {v : Bool} (word' : v ≡ is_word_byte x) where
         digit-1 : is_digit (get_or (behind text at) 1 0) ≡ true
         digit-1 = rw byte-1 (sym digit' ∙ not-false _ is')
 
