@@ -3,8 +3,9 @@
 
 usage: tools/spelling_docs.py [--dry] COMMIT     at the top; COMMIT holds the text that port.py was given
 
-Only what stands between backticks changes, and there only a name that the definitions and proofs of COMMIT have in lower camel case, that no
-crate has any more, and whose new spelling one has: `guardValue` is `guard_value`. It says which other names of such a form are left.
+Only what stands between backticks, or in a document's indented lines, changes: a name that the definitions and proofs of COMMIT have in lower
+camel case, that no crate has any more, and whose new spelling one has: `guardValue` is `guard_value`. It says which other names of such a form
+are left.
 """
 
 import pathlib
@@ -12,6 +13,8 @@ import re
 import subprocess
 import sys
 
+CODE = {".md": re.compile(r"`[^`\n]+`|^    .*", re.M)}
+QUOTED = re.compile(r"`[^`\n]+`")
 NAME = re.compile(r"(?<![\w'-])[a-z][\w'-]*")
 CAMEL = re.compile("[a-z0-9_][A-Z]")
 WHERE = ["README.md", "docs/*.md", "docs/changes/*.md", "examples/**/*.md", "host", "include", "crates/*/src"]
@@ -52,7 +55,7 @@ def main():
 
     for path in map(pathlib.Path, git("ls-files", *WHERE).splitlines()):
         text = path.read_text(encoding="utf-8")
-        new = re.sub(r"`[^`\n]+`", lambda m: NAME.sub(word, m.group(0)), text)
+        new = CODE.get(path.suffix, QUOTED).sub(lambda m: NAME.sub(word, m.group(0)), text)
         if new != text:
             changed += 1
             if not dry:
