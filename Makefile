@@ -20,8 +20,8 @@ soak:
 
 # The static library for C on x86-64, and how to link it and run what it is linked into.
 lib:
-	@bash -c '. scripts/testing.sh && proving lib.log staticlib nadhirukh' lib
-	@echo 'to link: scripts/x86 cc -Iinclude PROGRAM.c target/staticlib/libnadhirukh.a -o PROGRAM'
+	@bash -c '. scripts/testing.sh && proving write_library' lib
+	@echo 'to link: scripts/x86 cc -Iinclude PROGRAM.c crates/nadhirukh/out/libnadhirukh.a -o PROGRAM'
 	@echo 'to run:  scripts/x86 ./PROGRAM'
 	@[ "$$(uname -m)" != x86_64 ] || echo 'this machine is x86-64, so cc and ./PROGRAM alone do as well'
 
@@ -40,4 +40,4 @@ swi:
 
 # Lay out every source and proof file.
 fmt:
-	@rt fmt
+	@for crate in crates/*/; do (cd "$$crate" && rt fmt) || exit; done

@@ -7,17 +7,17 @@ use std::path::Path;
 fn main() {
     println!("cargo:rerun-if-changed=build.rs");
     if env::var_os("CARGO_FEATURE_OLD_LIBRARY").is_some() {
-        link("bench", "nadhirukh", "make bench OLD=ARCHIVE");
-        link("bench", "old", "make bench OLD=ARCHIVE");
+        link("host/target/bench", "nadhirukh", "make bench OLD=ARCHIVE");
+        link("host/target/bench", "old", "make bench OLD=ARCHIVE");
     } else if env::var_os("CARGO_FEATURE_LIBRARY").is_some() {
-        link("staticlib", "nadhirukh", "make lib");
+        link("crates/nadhirukh/out", "nadhirukh", "make lib");
     }
 }
 
-/// Links a library in a folder of the repository's target/, which a command writes.
+/// Links a library in a folder of the repository, which a command writes.
 fn link(folder: &str, library: &str, command: &str) {
     let package = env::var("CARGO_MANIFEST_DIR").expect("cargo names the package's folder");
-    let folder = Path::new(&package).join("../target").join(folder);
+    let folder = Path::new(&package).join("..").join(folder);
     let archive = folder.join(format!("lib{}.a", library));
     println!("cargo:rustc-link-search=native={}", folder.display());
     println!("cargo:rustc-link-lib=static={}", library);

@@ -2,16 +2,12 @@
 # It defines names and functions, and runs nothing.
 
 # The library for C, which make_library writes.
-library=target/staticlib/libnadhirukh.a
-
-# rt starts so many checks, of up to 1 GB each, and waits for the longest of them before it starts the next. The more there are, the less is a
-# processor idle meanwhile.
-export RT_JOBS=${RT_JOBS:-8}
+library=crates/nadhirukh/out/libnadhirukh.a
 
 # This file, which a command that runs alone holds a lock on.
 testing=$(realpath "${BASH_SOURCE[0]}")
 
-# alone COMMAND...: tests run side by side, and apt-get, or rt in one repository, must not run beside itself.
+# alone COMMAND...: tests run side by side, and apt-get, or what writes a file that another test reads, must not run beside itself.
 alone() (
     exec 9< "$testing" && flock 9 && "$@"
 )
@@ -36,7 +32,7 @@ have() {
     return 1
 }
 
-# Rust, for the second engine. What cargo builds lies apart from target/, which rt ci removes while tests run beside it.
+# Rust, for the second engine. What cargo builds lies in host/target.
 have_rust() {
     export CARGO_TARGET_DIR=$PWD/host/target
     have cargo cargo rustc
@@ -87,29 +83,48 @@ quietly() {
     return 1
 }
 
-# Writes the library, unless it is there and no crate was proved after it.
+# rt_in CRATE WORD...: rt in the folder of a crate.
+rt_in() (
+    cd "crates/$1" && shift && rt "$@"
+)
+
+# Proves the crate `nadhirukh` and those below it, and writes the library: a library of crates that are proved alone.
+write_library() {
+    local sum
+    sum=$(made_of) && rt_in nadhirukh lib && echo "$sum $(sha256sum < "$library")" > "$library.sum"
+}
+
+# A sum of all that the library is made of.
+made_of() {
+    { rt version && find crates.txt crates/*/{src,specs,proofs} -type f -print0 2> /dev/null | sort -z | xargs -0 sha256sum; } | sha256sum
+}
+
+# Writes the library, unless it is there and was made of the same.
 make_library() {
     alone fresh_library
 }
 
 fresh_library() {
-    quietly rt check nadhirukh || return
-    [ -f "$library" ] && [ -z "$(find target/stamp -newer "$library")" ] && return
-    quietly rt staticlib nadhirukh
+    [ -f "$library" ] && [ "$(made_of) $(sha256sum < "$library")" = "$(cat "$library.sum" 2> /dev/null)" ] && return
+    quietly write_library
 }
 
-# proving LOG WORD...: rt with these words. What it says itself, a line for each crate as it is done, is shown; all that it prints goes
-# to the file target/log/LOG, which is named where rt fails.
+# make_program NAME: proves a program and those below it, and builds it as crates/NAME/out/NAME, unless nothing has changed; and runs it.
+make_program() {
+    quietly rt_in "$1" run < "crates/$1/stdin"
+}
+
+# proving COMMAND...: a command by which rt proves crates. A line for each crate is shown as it is done; all that the command prints is in a
+# file, which is named where it fails.
 proving() {
-    local log=target/log/$1 status
-    shift
+    local log status
     command -v rt > /dev/null || stop "rt, the command of the Rattle toolchain, is not on the path"
-    mkdir -p target/log
-    rt "$@" 2>&1 | tee "$log" | sed --unbuffered --quiet 's/^rt: //p'
+    log=$(mktemp) || stop "there is no room for what rt says"
+    "$@" 2>&1 | tee "$log" | awk '/^crate [a-z_]+: /{ name = $2; sub(":", "", name) } /^logic=/{ print name, $1 ~ /^logic=proved/ ? "proved" : "NOT PROVED"; fflush() }'
     status=${PIPESTATUS[0]}
-    [ "$status" -eq 0 ] && return
+    [ "$status" -eq 0 ] && rm -f "$log" && return
     grep ': error' "$log" | head -n 5 | cut -c 1-300
-    stop "rt $* ended with status $status; all that it said is in $log"
+    stop "$* ended with status $status; all that it said is in $log"
 }
 
 # link_c SOURCE PROGRAM [FLAG...]: builds a C program with the library. have_c and make_library come first.

@@ -13,29 +13,43 @@ repository=$PWD
 scratch=$(mktemp -d) || exit 2
 trap 'rm -rf "$scratch"' EXIT
 
-# The crates that the definition and the theorems about it are in.
+# The crates that the definition and the theorems about it are in, each behind those that it stands on.
 crates=(numbers wire model grammar semantics)
 
 # take_out MODULE: a module of the proofs of `model`, and those that cite it.
 take_out() {
     local module=$1 file
     rm -f "crates/model/proofs/$module.antt"
-    sed -i "/^pub mod $module\$/d" crates/model/proofs/Lib.antt
+    sed -i "/^\(pub \)\?mod $module\$/d" crates/model/proofs/Lib.antt
     for file in $(grep --files-with-matches "proofs\.$module\." crates/model/proofs/*.antt); do
         take_out "$(basename "$file" .antt)"
     done
 }
 
+# proved_up_to CRATE: proves the crates of the current folder up to this one, in their order. Where one fails, what rt said of it is in the
+# file said, and its name is in failed.
+proved_up_to() {
+    for failed in "${crates[@]}"; do
+        rt_in "$failed" lib --jobs 1 > said 2>&1 || return
+        [ "$failed" != "$1" ] || return 0
+    done
+    failed=$1
+    echo "no crate $1 is proved here" > said
+    return 1
+}
+
 # A repository of these crates alone, without the worked cases, and proved.
 lay_out() {
     local name
-    mkdir -p "$scratch/right/crates" && cd "$scratch/right" || return
+    mkdir -p "$scratch/right" && cd "$scratch/right" || return
     for name in "${crates[@]}"; do
-        cp -R "$repository/crates/$name" crates/ && rm -rf "crates/$name/must-fail" || return
+        mkdir -p "crates/$name" && cp -R "$repository/crates/$name"/{src,specs,proofs} "crates/$name" || return
         grep "^$name:" "$repository/crates.txt" >> crates.txt || return
     done
     take_out Cases
-    quietly rt check
+    proved_up_to "${crates[-1]}" && return
+    cat said
+    return 1
 }
 
 # replace FILE OLD NEW: a text that stands once in a file.
@@ -62,20 +76,26 @@ apply() {
     done < "$1"
 }
 
-# The first error in what rt said that is not of a fact which an earlier error took away: its file and the name of what it is in.
+# first_error CRATE: the first error in what rt said of a crate that is not of a fact which an earlier error took away: its file, which rt names
+# from the crate's folder, and the name of what it is in.
 first_error() {
-    grep ': error: ' | grep --invert-match 'was not admitted' | sed -n "1s|^$PWD/crates/\([^:]*\):[^\`]*\`\([^\`]*\)\`.*|\1 \2|p"
+    grep ': error: ' | grep --invert-match --extended-regexp 'error: [0-9]+ declarations? that depends? on ' |
+        sed -n "1s|^\(\./\)\?\([^:]*\):[0-9]*:[0-9]*: error: [^\`]*\`\([^\`]*\)\`.*|$1/\2 \3|p"
 }
 
 # try EDIT: prints what is wrong, and nothing where the edit is refused as it says.
 try() {
-    local name found
+    local name found failed
     name=$(basename "$1" .edit)
     cp -R "$scratch/right" "$scratch/$name" && cd "$scratch/$name" || { echo "no room for it"; return; }
     apply "$1" || return
-    rt check "${where%%/*}" > said 2>&1 && { echo "it is not refused"; return; }
-    found=$(first_error < said)
-    [ "$found" = "$where" ] || echo "refused at ${found:-no fact}, and not at $where"
+    if proved_up_to "${where%%/*}"; then
+        echo "it is not refused"
+    else
+        found=$(first_error "$failed" < said)
+        [ "$found" = "$where" ] || echo "refused at ${found:-no fact of $failed}, and not at $where"
+    fi
+    rm -rf "$scratch/$name"/crates/*/out # what rt keeps there takes room
 }
 
 command -v rt > /dev/null || give_up "rt, the command of the Rattle toolchain, is not on the path"

@@ -9,13 +9,13 @@ trap 'rm -rf "$made"' EXIT
 
 have_rust || give_up "$missing"
 have_runner || give_up "$missing"
-quietly alone rt check run || give_up "rt did not build the program"
+make_program run || give_up "rt did not build the program"
 (cd host && cargo run --quiet --offline --release -j1 --bin lines -- "$made") || give_up "the second engine's lines were not written"
 
 passed=0
 failed=0
 for input in "$made"/*.in; do
-    if "${runner[@]}" target/bin/run < "$input" | cmp - "${input%.in}.out"; then
+    if "${runner[@]}" crates/run/out/run < "$input" | cmp - "${input%.in}.out"; then
         passed=$((passed + 1))
     else
         echo "run.sh: $(basename "$input" .in) failed"
