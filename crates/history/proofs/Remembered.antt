@@ -92,7 +92,8 @@ module _ (past : List (List ℕ)) (e : List ℕ) (n i : ℕ) (long : length past
     unfolding past_from in_history
     past-hit t w = let k : n ≤ length past = omega arith in sym (rw (slice-cons i n past d less k, ← s, t) refl) ∙ w
 
-    pub past-miss : b ≡ false → {whole : Bool} → in_history (fired_at e) (past_from i n past) ≡ whole → in_history (fired_at e) (past_from (i + 1) n past) ≡ whole
+    pub past-miss : b ≡ false → {whole : Bool} → in_history (fired_at e) (past_from i n past) ≡ whole
+        → in_history (fired_at e) (past_from (i + 1) n past) ≡ whole
     unfolding past_from in_history
     past-miss t w = let k : n ≤ length past = omega arith in sym (rw (add-one, slice-cons i n past d less k, ← s, t) refl) ∙ w
 

@@ -140,7 +140,8 @@ module _ (t : List ℕ) (arity : arity_at t 0 ≡ 0) (rest : Bytes) (p : ℕ) wh
   guard-fine : drop p t ≡ guard_row ++ rest → guard_bad t p ≡ false
   unfolding guard_bad guard_row
   guard-fine e =
-      rw (byte-at t (guard_row ++ rest) p e 1, expression-at t (guard_row ++ rest) p e 2 true, expression-at t (guard_row ++ rest) p e 13 true) (guard-closed rest)
+      rw (byte-at t (guard_row ++ rest) p e 1, expression-at t (guard_row ++ rest) p e 2 true, expression-at t (guard_row ++ rest) p e 13 true)
+      (guard-closed rest)
 
   fact-fine : drop p t ≡ fact_row ++ rest → body_fact_bad t p 32 ≡ false
   unfolding body_fact_bad fact_row

@@ -261,7 +261,8 @@ pub all-told : T (all_agree matrix)
 unfolding told stage opened stages along kinds one limits spot put spoiled crossed offsets further bytes tagged used_good used_bad far_bad unused_bad
     first used_as square arities heads expressions headed guards body_facts goals goal_facts matrix same numbers_of ran agrees all_agree u32_at signed_of
     bits_of bytes4 kind_of out_of_order slot_by slot_at expression_at place_bad arity_at places_bad top_of expression_bad arguments_bad head_bad guard_bad
-    body_fact_bad bad_field is_variable head_has in_heads strange_slot strange_expression strange_guard strange_fact strange behind fields_of ordered_of tested_of
+    body_fact_bad bad_field is_variable head_has in_heads strange_slot strange_expression strange_guard strange_fact strange behind fields_of ordered_of
+    tested_of
     record_of noted ended go_on read_from read_of later_bad later_places_bad goal_fact_bad facts_verdict goal_verdict verdict_result check_of run_of
 all-told = tt
 

@@ -359,7 +359,8 @@ module _ (t : List ℕ) (symbols : ℕ) (arities : (i : ℕ) → i < symbols →
           };
         }
 
-    fact-good : (p : ℕ) → body_fact_bad t p symbols ≡ false → strange_fact t start n p ≡ false → GoodItem t symbols (heads_from t (start + 1) n) (body_fact_at t p)
+    fact-good : (p : ℕ) → body_fact_bad t p symbols ≡ false → strange_fact t start n p ≡ false
+        → GoodItem t symbols (heads_from t (start + 1) n) (body_fact_at t p)
     unfolding body_fact_bad strange_fact body_fact_at
     fact-good p e u =
         let s : ℕ = get_or t (p + 1) 0 in

@@ -18,7 +18,8 @@ use Rattle.numbers.specs.declared.Value.{Value}
 use Rattle.numbers.specs.declared.Value.TheVariants.{Number, Undefined}
 use Rattle.numbers.specs.declared.Truth.{Truth}
 use Rattle.numbers.specs.declared.Truth.TheVariants.{True, False, Undefined as Unknown}
-use Rattle.numbers.specs.Numbers.{in_range, exact, equal, unless_zero, sum_of, difference_of, product_of, floor_z, mod_z, quotient_of, remainder_of, operate, on_numbers}
+use Rattle.numbers.specs.Numbers.{in_range, exact, equal, unless_zero, sum_of, difference_of, product_of, floor_z, mod_z, quotient_of, remainder_of, operate}
+use Rattle.numbers.specs.Numbers.{on_numbers}
 use Rattle.numbers.specs.Numbers.{evaluate, holds, told, judge, compare}
 use Rattle.numbers.proofs.Laws.{equal-same, equal-is}
 use Rattle.model.specs.declared.FactId.{FactId}

@@ -330,7 +330,8 @@ module _ (t : Table) (st : State) (T : List Fired) (k : Follows t st T) (p : Hea
 
   noted-behind : (removed : List Head) → every (Noted (firing p facts ∷ T)) (after removed)
   noted-behind [] =
-      every-snoc (Noted (firing p facts ∷ T)) st.history (fired_of p.rule (ids_of facts)) (noted-later (firing p facts ∷ T) (λ u n. mathlib.Core.List.Memᴰ.tail n))
+      every-snoc (Noted (firing p facts ∷ T)) st.history (fired_of p.rule (ids_of facts))
+      (noted-later (firing p facts ∷ T) (λ u n. mathlib.Core.List.Memᴰ.tail n))
       (firing p facts, mathlib.Core.List.Memᴰ.head refl, refl)
   noted-behind (h ∷ hs) = noted-pruned h hs (firing p facts ∷ T) (λ u n. mathlib.Core.List.Memᴰ.tail n)
 
@@ -520,7 +521,13 @@ module _ (t : Table) (st : State) (T : List Fired) (k : Follows t st T) (e : Ent
           → Accounted st.history (st.store ++ (record { id = record { 0 = st.next }; fact = f } ∷ [])) (suc st.next) u
       later u (inl h) = inl h
       later u (inr g) =
-          inr (record { id = g.id; named = g.named; given = omega (arith, g.given); gone = λ s m e. other u g s (mathlib.Core.List.Memᴰ.append_cases st.store m) e })
+          inr
+          (record {
+            id = g.id;
+            named = g.named;
+            given = omega (arith, g.given);
+            gone = λ s m e. other u g s (mathlib.Core.List.Memᴰ.append_cases st.store m) e;
+          })
 
   pub dropped-follows : Follows t (dropped st es) T
   unfolding dropped

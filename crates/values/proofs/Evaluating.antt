@@ -76,7 +76,8 @@ module _ (b : Binding) (t : List ℕ) (p : ℕ) {value : ℕ} (ve : value ≡ u3
   unfolding slot_value slot_at slot_by
   lies-spoilt e z = rw (e, ← ve, ne_eqb value 0 z)
 
-pub lies-none : (b : Binding) (t : List ℕ) (p : ℕ) → (get_or t p 0 ≡ 2 → ⊥) → (get_or t p 0 ≡ 1 → ⊥) → (get_or t p 0 ≡ 0 → ⊥) → Undefined ≡ slot_value b (slot_at t p)
+pub lies-none : (b : Binding) (t : List ℕ) (p : ℕ) → (get_or t p 0 ≡ 2 → ⊥) → (get_or t p 0 ≡ 1 → ⊥) → (get_or t p 0 ≡ 0 → ⊥)
+    → Undefined ≡ slot_value b (slot_at t p)
 unfolding slot_value slot_at slot_by
 lies-none b t p two one zero = rw (ne_eqb _ 0 zero, ne_eqb _ 1 one, ne_eqb _ 2 two)
 

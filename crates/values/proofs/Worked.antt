@@ -127,7 +127,8 @@ module _ (b : Binding) (t : List ℕ) (p : ℕ) {made : List ℤ} (k : ℕ) (roo
 
 module _ (b : Binding) (t : List ℕ) (p : ℕ) {made : List ℤ} {k : ℕ} where
   pub item-fact : {f : Bool} → f ≡ is_fact t p → f ≡ true → {after : List ℤ} {ok : Bool}
-      → Worked (item_entry b (body_fact_at t p)) (fact_made t p k after) k made after ok → Worked (item_entry b (item_at t p)) (entry_made t p k after) k made after ok
+      → Worked (item_entry b (body_fact_at t p)) (fact_made t p k after) k made after ok
+      → Worked (item_entry b (item_at t p)) (entry_made t p k after) k made after ok
   unfolding item_at entry_made
   item-fact e q m = rw (sym e ∙ q) m
 

@@ -46,7 +46,8 @@ Small Bad = Unit {0}
 
 pub variable-small : (t : List ℕ) (p : ℕ) {s : Slot} {v : ℕ} → s ≡ slot_at t p → s ≡ Variable v → v < 16
 unfolding slot_at
-variable-small t p e d = let value = u32_at t (p + 1) in subst Small (sym e ∙ d) (by-slot Small (get_or t p 0) value tt tt tt (λ tag low. ltb-true value 16 low))
+variable-small t p e d = let value = u32_at t (p + 1) in subst Small (sym e ∙ d)
+    (by-slot Small (get_or t p 0) value tt tt tt (λ tag low. ltb-true value 16 low))
 
 -- ---- marking
 
@@ -109,7 +110,8 @@ module _ (t : List ℕ) (p : ℕ) where
     unfolding marked
     bad-marked d = rw (← e, d)
 
-  pub head-marked : (l : List Bool) {a b c d : List Bool} → a ≡ marked (slot_at t (p + 2)) l → b ≡ marked (slot_at t (p + 7)) a → c ≡ marked (slot_at t (p + 12)) b
+  pub head-marked : (l : List Bool) {a b c d : List Bool} → a ≡ marked (slot_at t (p + 2)) l → b ≡ marked (slot_at t (p + 7)) a
+      → c ≡ marked (slot_at t (p + 12)) b
       → d ≡ marked (slot_at t (p + 17)) c → d ≡ marked_head t p l
   unfolding marked_head
   head-marked l e f g h = rw (← e, ← f, ← g) h

@@ -27,6 +27,6 @@ overflow_sub-result c = rw (down-is c.args.n (omega arith) (omega arith)) (recor
 pub returns : goal.returns
 returns c =
     let fits : SFits w32 (negsuc 0 -ℤ to_z w32 (4294967295 - c.args.n)) =
-            rw (down-is c.args.n (omega arith) (omega arith)) (record { sfits = omega arith })
+    rw (down-is c.args.n (omega arith) (omega arith)) (record { sfits = omega arith })
     in
     to_z-of_z fits ∙ down-is c.args.n (omega arith) (omega arith) ∙ sym (signed-high c.args.n (omega arith) (omega arith))

@@ -9,7 +9,8 @@ use Rattle.store.proofs.columns.leave_out.Given as goal
 
 abbrev pub invariant-loop-i : goal.invariant-loop-i
 invariant-loop-i l =
-    Leaving (drop l.from (ids_of l.to l.gone)) (columns_of l.initial.symbols l.initial.ids l.initial.args) l.stored (columns_of l.symbols l.ids l.args) l.kept l.i
+    Leaving (drop l.from (ids_of l.to l.gone)) (columns_of l.initial.symbols l.initial.ids l.initial.args) l.stored (columns_of l.symbols l.ids l.args) l.kept
+    l.i
 
 abbrev pub decreases-loop-i : goal.decreases-loop-i
 decreases-loop-i l = l.stored - l.i

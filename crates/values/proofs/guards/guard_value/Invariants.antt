@@ -11,7 +11,9 @@ use Rattle.values.proofs.guards.guard_value.Given as goal
 
 abbrev pub invariant-loop-left : goal.invariant-loop-left
 invariant-loop-left l =
-    (l.at + 24 * l.left ≤ length l.table) × (guard_value (binding_of l.values l.bound) (guards_from l.table l.at l.left) ≡ guard_value (binding_of l.values l.bound) (guards_from l.table l.p l.n))
+    (l.at + 24 * l.left ≤ length l.table)
+    × (guard_value (binding_of l.values l.bound) (guards_from l.table l.at l.left)
+    ≡ guard_value (binding_of l.values l.bound) (guards_from l.table l.p l.n))
 
 abbrev pub decreases-loop-left : goal.decreases-loop-left
 decreases-loop-left l = l.left
