@@ -1,7 +1,9 @@
 -- Laws of words in bytes, for the crates that cite them: a word that was written is read, what lies outside is kept, bits and
 -- signed numbers go there and back, and how large each can be. Assumes nothing.
-use Rattle.std.specs.Prelude.{◌≡◌, refl, ◌≢◌, ◌⊎◌, Bool, true, false, List, [], ◌∷◌, ◌++◌, ℕ, zero, suc, ◌+◌, ◌-◌, ◌/◌, ◌%◌, ◌≤◌, ◌<◌, ltb, ℤ, pos, negsuc, length, get_or, set, take, drop}
-use Rattle.std.proofs.Common.{sym, ap, ◌∙◌, inl, inr, ⊎_elim, append_assoc, add_assoc, mod-eq_of_lt, add-one, arith, length-set, get_or-set_same, get_or-set_other, lt-length-set, get_or-drop, get_or-append-add, Fits, SFits, lt-ltb, le-ltb, ltb-true, ltb-false}
+use Rattle.std.specs.Prelude.{◌≡◌, refl, ◌≢◌, ◌⊎◌, Bool, true, false, List, [], ◌∷◌, ◌++◌, ℕ, zero, suc, ◌+◌, ◌-◌, ◌/◌, ◌%◌, ◌≤◌, ◌<◌, ltb, ℤ, pos, negsuc}
+use Rattle.std.specs.Prelude.{length, get_or, set, take, drop}
+use Rattle.std.proofs.Common.{sym, ap, ◌∙◌, inl, inr, ⊎_elim, append_assoc, add_assoc, mod-eq_of_lt, add-one, arith, length-set, get_or-set_same}
+use Rattle.std.proofs.Common.{get_or-set_other, lt-length-set, get_or-drop, get_or-append-add, Fits, SFits, lt-ltb, le-ltb, ltb-true, ltb-false}
 use Rattle.std.proofs.Math.Nat.{div-div-eq-div-mul}
 use Rattle.std.proofs.Math.Numerals.{add-two, add-three}
 use Rattle.std.proofs.Math.ListN.{get_or-eq_default}
@@ -10,6 +12,7 @@ use Rattle.std.proofs.Math.Seq.{get_or-append_seam}
 use Rattle.std.specs.Int.{w8, w32}
 use Rattle.wire.specs.Wire.{byte_at, joined, u32_at, i32_at, signed_of, bits_of, bytes4, put_u32}
 pub use Rattle.wire.specs.Laws.{Bytes}
+
 -- ---- two's complement
 
 pub signed-low : (n : ℕ) → n < 2147483648 → signed_of n ≡ pos n
