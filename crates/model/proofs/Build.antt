@@ -1,5 +1,5 @@
 -- Short names for writing tables, goals and answers down as bytes.
-use Prim.Native.Nat.{ℕ, zero, suc, ◌+◌}
+use Prim.Native.Nat.{ℕ, zero, suc}
 use mathlib.Core.List.{List, [], ◌∷◌, ◌++◌}
 use lib.IntN.{ℤ, pos}
 use lib.ListN.{replicate}

@@ -1,6 +1,6 @@
 -- "Pruning changes no step, against a history that keeps all." The pruned history is what is left of the other when all that names a removed
 -- fact is taken out, and no stored fact is among those; 0, which names nobody, never is either. So both histories know the same instances.
-use Prim.Native.Nat.{ℕ, zero, suc, ◌+◌, ◌-◌, ◌≤◌, ◌<◌}
+use Prim.Native.Nat.{ℕ, zero, suc, ◌-◌, ◌≤◌, ◌<◌}
 use native.Mathlib.Omega.{arith}
 use mathlib.Core.Path.{◌≡◌, refl, sym, ◌∙◌, ap, ap₂, subst}
 use mathlib.Core.Bool.{Bool, true, false, not, ◌&&◌, ◌||◌}

@@ -1,5 +1,5 @@
 -- The three public calls: from the bytes that a call is given to its whole result, and to every byte of lent memory.
-use Rattle.std.specs.Prelude.{ℕ, zero, suc, Bool, true, false, List, ltb, leb, eqb, length}
+use Rattle.std.specs.Prelude.{ℕ, zero, suc, Bool, true, false, List, leb, eqb, length}
 use Rattle.std.proofs.Math.Option.{Option, none, some}
 use Rattle.model.specs.declared.Stored.{Stored}
 use Rattle.model.specs.declared.CallResult.{CallResult}

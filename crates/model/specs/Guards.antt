@@ -1,5 +1,5 @@
 -- Expressions and guards under a binding of the variables.
-use Rattle.std.specs.Prelude.{ℕ, Bool, true, false, cond, List, [], ◌∷◌, ℤ, pos, ltb, get_or, replicate}
+use Rattle.std.specs.Prelude.{ℕ, false, cond, List, [], ◌∷◌, pos, ltb, get_or, replicate}
 use Rattle.numbers.specs.declared.Value.{Value}
 use Rattle.numbers.specs.declared.Value.TheVariants.{Number, Undefined}
 use Rattle.numbers.specs.declared.Truth.{Truth}

@@ -1,5 +1,5 @@
 -- Reading a table: "A table is read record by record, each tested in the order 16, 17, 18, 21, 19, 20, 22."
-use Rattle.std.specs.Prelude.{ℕ, zero, suc, ◌+◌, ◌-◌, List, Bool, true, false, cond, length, get_or, set, replicate, ltb, leb, eqb}
+use Rattle.std.specs.Prelude.{ℕ, zero, suc, ◌+◌, ◌-◌, List, cond, length, get_or, set, replicate, ltb, leb, eqb}
 use Rattle.model.specs.declared.Kind.{Kind}
 use Rattle.model.specs.declared.Kind.TheVariants.{NextSymbol, NextRule, KeptHead, RemovedHead, Comparison, BodyFact, BodyFail, EndOfTable, Unknown}
 use Rattle.model.specs.declared.RuleShape.{RuleShape}

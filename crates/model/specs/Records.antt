@@ -1,5 +1,5 @@
 -- The kinds of a table's records: their bytes, lengths, order and limits.
-use Rattle.std.specs.Prelude.{ℕ, ◌+◌, Bool, true, false, cond, ◌||◌, ltb, leb, eqb}
+use Rattle.std.specs.Prelude.{ℕ, Bool, false, cond, ◌||◌, ltb, leb, eqb}
 use Rattle.model.specs.declared.Kind.{Kind}
 use Rattle.model.specs.declared.Kind.TheVariants.{NextSymbol, NextRule, KeptHead, RemovedHead, Comparison, BodyFact, BodyFail, EndOfTable, Unknown}
 use Rattle.model.specs.declared.Scan.{Scan}

@@ -1,11 +1,10 @@
 -- The run: its endings 0..7, and its counts.
 use Rattle.std.specs.Prelude.{ℕ, zero, suc, ◌-◌, List, [], ◌∷◌, length}
-use Rattle.model.specs.declared.Entry.{Entry}
 use Rattle.model.specs.declared.Stored.{Stored}
 use Rattle.model.specs.declared.CallResult.{CallResult}
 use Rattle.model.specs.Results.{Counts, counts_of, no_counts, result_of}
 use Rattle.model.specs.Table.{Table}
-use Rattle.model.specs.Steps.{State, Memory, prunes, Outcome, moves, fires, fails, stops, step_with}
+use Rattle.model.specs.Steps.{State, Memory, prunes, moves, fires, fails, stops, step_with}
 
 -- the result, and the facts that are stored at the end
 pub record Ended : Type 0 where

@@ -1,5 +1,5 @@
 -- Slots and expressions, as their bytes say.
-use Rattle.std.specs.Prelude.{ℕ, ◌+◌, List, Bool, true, false, cond, get_or, ltb, eqb}
+use Rattle.std.specs.Prelude.{ℕ, ◌+◌, List, cond, get_or, ltb, eqb}
 use Rattle.model.specs.declared.Slot.{Slot}
 use Rattle.model.specs.declared.Slot.TheVariants.{Unused, Constant, Variable, Bad}
 use Rattle.model.specs.declared.Expression.{Expression}

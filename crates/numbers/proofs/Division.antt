@@ -13,7 +13,6 @@ use lib.Dec.{T, leb→le, le→leb, ltb→lt, lt→ltb}
 use lib.IntN.{ℤ, pos, negsuc, neg_ℤ, ◌+ℤ◌, ◌-ℤ◌, ◌*ℤ◌, neg_ℤ-neg_ℤ, neg_ℤ-+ℤ, +ℤ_comm, +ℤ-neg_ℤ_cancel}
 use lib.Signed.{mag, lt_z, le_z, ◌≤ℤ◌, ◌<ℤ◌}
 use borrow.Author.Tests.{lt-ltb}
-use Rattle.numbers.specs.declared.Value.{Value}
 use Rattle.numbers.specs.declared.Value.TheVariants.{Number, Undefined}
 use Rattle.numbers.specs.Numbers.{lowest, highest, in_range, exact, equal, unless_zero, down, floor_z, mod_z, quotient_of, remainder_of}
 use Rattle.numbers.proofs.Laws.{InRange, pos-ranged, negsuc-ranged, exact-number, unless-other}

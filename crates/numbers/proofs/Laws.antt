@@ -1,7 +1,7 @@
 -- Laws of the definition, for a reader who asks whether it says what it should, and for the crates that cite them: a value that
 -- is a number lies in the range, `equal` is equality, and no number but a comparator's answers.
 -- Each goes by the cases of the definition that it is about. Assumes nothing.
-use Rattle.std.specs.Prelude.{◌≡◌, refl, Bool, true, false, cond, ◌&&◌, ◌≢◌, ℕ, zero, suc, ◌≤◌, ◌<◌, T, eqb, ℤ, pos, negsuc, ◌≤ℤ◌}
+use Rattle.std.specs.Prelude.{◌≡◌, refl, Bool, true, false, cond, ◌&&◌, ◌≢◌, ℕ, zero, suc, ◌≤◌, ◌<◌, T, eqb, ℤ, pos, negsuc}
 use Rattle.std.proofs.Common.{sym, ap, subst, arith, leb→le, le→leb, SFits, le-leb, eq-eqb, ne_eqb, eqb-true}
 use Rattle.std.specs.Int.Signed.{mag, le_z}
 use Rattle.std.specs.Int.{w32}

@@ -12,7 +12,7 @@ use lib.Signed.{mag, lt_z}
 use mir.Syntax.{w32, w64}
 use mir.Val.{SFits, to_z, of_z}
 use mir.Facts.{to_z-of_z, sfits_widen, sfits_lit}
-use borrow.Author.Tests.{ltb-true, ltb-false, le-leb, lt-leb, eq-eqb, ne_eqb, eqb-true, eqb-false}
+use borrow.Author.Tests.{ltb-true, ltb-false, lt-leb, eq-eqb, ne_eqb, eqb-true, eqb-false}
 use Rattle.numbers.specs.Numbers.{lowest, highest, in_range, exact, equal, unless_zero}
 use Rattle.numbers.proofs.Laws.{fits-in-range, exact-number, unless-other}
 use Rattle.numbers.specs.declared.Value.{Value}

@@ -1,9 +1,9 @@
 -- How the code rounds down with a division that has no signs. By a divisor above 0 a number not below 0 is cut; one below 0 is mirrored, -1 to 0, -2 to 1,
 -- then cut, and its quotient is mirrored back: that is `down`, clause by clause. By a divisor below 0 both signs are turned first: that is `floor_z`.
-use mathlib.Core.Path.{◌≡◌, refl, sym, ap, subst, ◌∙◌}
+use mathlib.Core.Path.{◌≡◌, refl, sym, ap, ◌∙◌}
 use mathlib.Core.Bool.{Bool, true, false, cond}
 use mathlib.Core.Logic.{◌≢◌}
-use Prim.Native.Nat.{ℕ, zero, suc, ◌+◌, ◌*◌, ◌/◌, ◌≤◌, ◌<◌}
+use Prim.Native.Nat.{ℕ, zero, suc, ◌/◌, ◌≤◌, ◌<◌}
 use native.Mathlib.Nat.{div-le_self}
 use native.Mathlib.Omega.{arith}
 use lib.IntN.{ℤ, pos, negsuc, neg_ℤ, nat_abs, ◌-ℤ◌, ◌*ℤ◌, +ℤ_idl}
@@ -12,7 +12,7 @@ use lib.Signed.{mag, lt_z, non_neg}
 use mir.Syntax.{w32, w64}
 use mir.Val.{SFits, Fits, to_z, of_z}
 use mir.Facts.{to_z-of_z}
-use borrow.Author.Tests.{lt-ltb, le-ltb}
+use borrow.Author.Tests.{le-ltb}
 use Rattle.numbers.specs.Numbers.{exact, down, floor_z, mod_z}
 use Rattle.numbers.proofs.Machine.{mag-negate, mag-sum, mag-prod, wide, wide-is}
 

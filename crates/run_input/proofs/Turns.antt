@@ -1,13 +1,12 @@
 -- One turn of `table_end`, as the definition has it. The loop's invariant: what is left of the records answers for the whole input.
 -- Assumes nothing.
 use Prim.Native.Nat.{ℕ, zero, suc, ◌+◌, ◌-◌, ◌<◌, ◌≤◌}
-use mathlib.Core.Path.{◌≡◌, refl, sym, ap, ◌∙◌}
+use mathlib.Core.Path.{◌≡◌, refl, sym, ◌∙◌}
 use mathlib.Core.Logic.{◌≢◌}
 use mathlib.Core.List.{List}
 use native.Mathlib.Omega.{arith}
 use lib.ListN.{length, get_or}
 use borrow.Author.Tests.{eq-eqb, ne_eqb, le-leb, lt-leb}
-use Rattle.model.specs.Records.{kind_of, size_of}
 use Rattle.run_input.specs.Input.{size_at, end_at, end_from, table_end, EndsAt}
 
 pub record Left (t : List ℕ) (p n : ℕ) : Type 0 where

@@ -1,7 +1,7 @@
 -- What kind of transition a state allows is no choice: where Default is possible, neither Simplify nor Propagate is; Simplify and Propagate are not
 -- possible at once; where Drop is possible, none of the three is. For the entry on top tells the occurrence, and with it the head and the rule.
 -- What is left open is which instance fires.
-use Prim.Native.Nat.{ℕ, ◌-◌}
+use Prim.Native.Nat.{ℕ}
 use native.Mathlib.Omega.{arith}
 use mathlib.Core.Path.{◌≡◌, sym, ◌∙◌, ap, subst}
 use mathlib.Core.Option.{none, some}

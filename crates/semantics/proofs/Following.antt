@@ -1,7 +1,7 @@
 -- A state of the definition and a history T that keeps every firing, as the relation has it: what ties them together, and that each kind of step
 -- keeps it. T and the definition's history, which holds rules without removed heads only and is pruned, differ by firings that name a fact which
 -- has left the store; no instance names such a fact, since no identifier is given twice. So both know the same instances.
-use Prim.Native.Nat.{ℕ, zero, suc, ◌+◌, ◌≤◌, ◌<◌}
+use Prim.Native.Nat.{ℕ, zero, suc, ◌≤◌, ◌<◌}
 use native.Mathlib.Omega.{arith}
 use mathlib.Core.Path.{◌≡◌, refl, sym, ◌∙◌, ap, subst}
 use mathlib.Core.Bool.{Bool, true, false, not, ◌&&◌, ◌||◌}

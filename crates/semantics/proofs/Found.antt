@@ -2,7 +2,7 @@
 -- to complete the choice is in the history or has a false guard; otherwise what it finds completes the choice, is not in the history, has the guard
 -- that it says, and every way that comes before it in document 01's order is in the history or has a false guard. By induction on the heads that
 -- are left; inside, on the stored facts, whose identifiers rise.
-use Prim.Native.Nat.{ℕ, zero, suc, ◌+◌}
+use Prim.Native.Nat.{ℕ, zero, suc}
 use native.Mathlib.Omega.{arith}
 use mathlib.Core.Path.{◌≡◌, refl, sym, ◌∙◌, ap, subst}
 use mathlib.Core.Bool.{Bool, true, false}

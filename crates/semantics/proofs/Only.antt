@@ -7,7 +7,7 @@ use mathlib.Core.Path.{◌≡◌, refl, sym, ◌∙◌, ap, subst}
 use mathlib.Core.Option.{none, some}
 use mathlib.Core.Logic.{◌⊎◌, inl, inr}
 use mathlib.Core.List.Memᴰ
-use mathlib.Core.List.{List, [], ◌∷◌, ◌++◌, Memᴰ}
+use mathlib.Core.List.{List, [], ◌∷◌, Memᴰ}
 use lib.ListN.{length}
 use Rattle.numbers.specs.declared.Truth.{Truth}
 use Rattle.numbers.specs.declared.Truth.TheVariants.{True, False, Undefined as Unknown}
@@ -21,7 +21,7 @@ use Rattle.model.specs.declared.Binding.{Binding}
 use Rattle.model.specs.declared.HeadPlace.{HeadPlace}
 use Rattle.model.specs.Table.{Table, rule_at}
 use Rattle.model.specs.Guards.{guard_value}
-use Rattle.model.specs.Steps.{State, waiting, active_entry, body_entries, Outcome, moves as moves-, fires as fires-, fails as fails-, stops as stops-}
+use Rattle.model.specs.Steps.{State, waiting, body_entries, Outcome, moves as moves-, fires as fires-, fails as fails-, stops as stops-}
 use Rattle.model.proofs.Kept.{Rising}
 use Rattle.semantics.specs.Instances.{Matching, firing}
 use Rattle.semantics.specs.Refined.{SameSet, Trying, rule_tried, Fires, Solve, Drop, Simplify, Propagate, Default}

@@ -1,6 +1,6 @@
 -- Every run, with its ending, is what document 01 chooses from its goal: step by step, by `step-held`. Since document 01 leaves no choice (Ends), it
 -- is the only one: whatever is derived from the goal ends as the run does. So it is a derivation of the published relation too.
-use Prim.Native.Nat.{ℕ, suc, ◌-◌, ◌<◌}
+use Prim.Native.Nat.{ℕ, suc, ◌<◌}
 use native.Mathlib.Omega.{arith}
 use mathlib.Core.Path.{◌≡◌, refl, sym, ◌∙◌, ap, subst}
 use mathlib.Core.List.{List, []}

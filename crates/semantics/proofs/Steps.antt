@@ -2,7 +2,7 @@
 -- every firing: a step that is no firing is Activate, Drop or Default, a firing is Simplify or Propagate with the first instance, Fail is Solve.
 -- Where the run stops, it is where document 01 says, with its number and place. What the search says of all instances is what Default and `First`
 -- ask for. K is what else is known of store, history and T: nothing, or that the history is what document 01's holds of T (Held).
-use Prim.Native.Nat.{ℕ, ◌+◌, ◌-◌, ◌≤◌, ◌<◌}
+use Prim.Native.Nat.{ℕ, ◌-◌, ◌≤◌, ◌<◌}
 use native.Mathlib.Omega.{arith}
 use mathlib.Core.Path.{◌≡◌, refl, sym, ◌∙◌, ap, subst}
 use mathlib.Core.Bool.{Bool, true, false}

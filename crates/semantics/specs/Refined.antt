@@ -6,7 +6,7 @@
 -- The page writes the active fact itself into its entry, c#i : j; here the entry has its symbol and its identifier, and the fact stands in S.
 use Rattle.std.specs.Prelude.{ℕ, zero, suc, ◌+◌, ◌-◌, ◌≤◌, ◌<◌, ◌≡◌, length, drop}
 use Rattle.std.proofs.Math.Option.{Option, none, some}
-use mathlib.Core.List.{List, [], ◌∷◌, ◌++◌, Memᴰ}
+use mathlib.Core.List.{List, ◌∷◌, ◌++◌, Memᴰ}
 use Rattle.std.proofs.Math.ListN.{get_elem?}
 use Rattle.numbers.specs.declared.Truth.TheVariants.{True}
 use Rattle.model.specs.declared.FactId.{FactId}

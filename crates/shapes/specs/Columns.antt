@@ -1,5 +1,5 @@
 -- What the columns say of a table's rules.
-use Rattle.std.specs.Prelude.{ℕ, ◌+◌, ◌*◌, ◌/◌, ◌%◌, ◌<◌, ◌≤◌, ◌≡◌, List, length, get_or, set}
+use Rattle.std.specs.Prelude.{ℕ, ◌+◌, ◌*◌, ◌/◌, ◌%◌, ◌<◌, ◌≡◌, List, length, get_or, set}
 use Rattle.model.specs.declared.RuleShape.{RuleShape}
 use Rattle.model.specs.Limits.{most_rules}
 use Rattle.model.specs.Reading.{no_shape}

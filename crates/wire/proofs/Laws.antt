@@ -71,7 +71,7 @@ bits-signed n q = ⊎_elim (back-low n) (λ (p : 2147483648 ≤ n). back-high n 
 pub past-end : (s : List ℕ) (at : ℕ) → length s ≤ at → 0 ≡ byte_at s at
 past-end s at h = sym (get_or-eq_default s 0 h)
 
--- as a slice's own rule says it: `slice-bytes _ c.shared-slice-known.given`
+-- as the rule of a slice of bytes says it
 pub slice-bytes : (s : List ℕ) → ((i : ℕ) → Fits w8 (byte_at s i)) → Bytes s
 slice-bytes s f = record { below = λ i. (f i).fits }
 

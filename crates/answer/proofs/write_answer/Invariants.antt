@@ -1,11 +1,8 @@
 -- `write_answer` meets its contract. The invariant: the buffer answers the rows so far.
 use Prim.Native.Nat.{◌-◌, ◌≤◌}
 use mathlib.Core.Path.{◌≡◌}
-use native.Mathlib.Omega.{arith}
-use borrow.Author.Rules.{rules}
 use Rattle.model.specs.Answer.{answered}
 use Rattle.store.specs.Views.{rows_from}
-use Rattle.answer.proofs.Rows.{no-rows, rows-room, one-more, rows-long, rows-done}
 use Rattle.answer.proofs.write_answer.Given as goal
 
 abbrev pub invariant-loop-i : goal.invariant-loop-i

@@ -1,10 +1,9 @@
 -- `chosen::is_among` meets its contract: what is left of the identifiers answers for the whole.
-use mathlib.Core.Path.{◌≡◌, refl, sym, ◌∙◌}
-use Prim.Native.Nat.{ℕ, ◌+◌, ◌-◌, ◌≤◌, ◌<◌}
-use lib.ListN.{drop, length}
+use mathlib.Core.Path.{◌≡◌}
+use Prim.Native.Nat.{◌-◌}
+use lib.ListN.{drop}
 use Rattle.model.specs.Search.{is_among}
-use borrow.Author.Rules.{rules}
-use Rattle.chosen.proofs.Among.{ids_from, among-start, among-hit, among-miss, among-none}
+use Rattle.chosen.proofs.Among.{ids_from}
 use Rattle.chosen.specs.Views.{ids_of}
 use Rattle.chosen.proofs.is_among.Given as goal
 

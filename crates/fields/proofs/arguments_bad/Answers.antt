@@ -1,5 +1,4 @@
 -- `fields::arguments_bad` meets its contract: one return an expression.
-use borrow.Author.Rules.{rules}
 use Rattle.records.proofs.Tests.{chain}
 use Rattle.model.specs.Fields.{arguments_bad}
 use Rattle.fields.proofs.arguments_bad.Goals as goal

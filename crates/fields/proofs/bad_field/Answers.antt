@@ -1,6 +1,4 @@
 -- `fields::bad_field` meets its contract: one arm a kind, whose record lies in the table.
-use native.Mathlib.Omega.{arith}
-use borrow.Author.Rules.{rules}
 use Rattle.model.specs.Fields.{bad_field}
 use Rattle.fields.proofs.bad_field.Goals as goal
 

@@ -1,5 +1,4 @@
 -- `fields::body_fact_bad` meets its contract.
-use borrow.Author.Rules.{rules}
 use Rattle.records.proofs.Tests.{told}
 use Rattle.model.specs.Fields.{body_fact_bad}
 use Rattle.fields.proofs.body_fact_bad.Goals as goal

@@ -1,5 +1,4 @@
 -- `fields::expression_bad` meets its contract: one return a part.
-use borrow.Author.Rules.{rules}
 use Rattle.records.proofs.Tests.{told}
 use Rattle.model.specs.Fields.{expression_bad}
 use Rattle.fields.proofs.expression_bad.Goals as goal

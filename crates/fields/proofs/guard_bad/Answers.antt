@@ -1,5 +1,4 @@
 -- `fields::guard_bad` meets its contract.
-use borrow.Author.Rules.{rules}
 use Rattle.records.proofs.Tests.{told}
 use Rattle.model.specs.Fields.{guard_bad}
 use Rattle.fields.proofs.guard_bad.Goals as goal

@@ -1,5 +1,4 @@
 -- `fields::head_bad` meets its contract.
-use borrow.Author.Rules.{rules}
 use Rattle.records.proofs.Tests.{told}
 use Rattle.model.specs.Fields.{head_bad}
 use Rattle.fields.proofs.head_bad.Goals as goal

@@ -1,5 +1,4 @@
 -- `fields::place_bad` meets its contract: one arm a slot.
-use borrow.Author.Rules.{rules}
 use Rattle.model.specs.Fields.{place_bad}
 use Rattle.fields.proofs.place_bad.Goals as goal
 

@@ -1,5 +1,4 @@
 -- `fields::places_bad` meets its contract: one return a place.
-use borrow.Author.Rules.{rules}
 use Rattle.records.proofs.Tests.{chain}
 use Rattle.model.specs.Fields.{places_bad}
 use Rattle.fields.proofs.places_bad.Goals as goal

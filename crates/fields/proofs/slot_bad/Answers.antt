@@ -1,5 +1,4 @@
 -- `fields::slot_bad` meets its contract.
-use borrow.Author.Rules.{rules}
 use Rattle.fields.proofs.slot_bad.Goals as goal
 
 pub returns : goal.returns

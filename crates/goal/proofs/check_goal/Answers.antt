@@ -1,5 +1,4 @@
 -- `check_goal` meets its contract.
-use borrow.Author.Rules.{rules}
 use Rattle.records.proofs.Tests.{chain}
 use Rattle.model.specs.Goal.{goal_verdict}
 use Rattle.goal.proofs.check_goal.Goals as goal

@@ -1,7 +1,6 @@
 -- `facts_verdict` meets its contract. The invariant: what is left of the facts answers for all of them.
-use native.Mathlib.Omega.{arith}
 use Prim.Native.Nat.{◌-◌}
-use Rattle.goal.proofs.Facts.{FactsLeft, facts-begin, fact-bad, fact-passed, facts-end}
+use Rattle.goal.proofs.Facts.{FactsLeft}
 use Rattle.goal.proofs.facts_verdict.Given as goal
 
 abbrev pub invariant-loop-k : goal.invariant-loop-k

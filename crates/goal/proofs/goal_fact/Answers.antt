@@ -1,6 +1,5 @@
 -- `goal_fact` meets its contract.
 use mathlib.Core.Path.{◌∙◌}
-use borrow.Author.Rules.{rules}
 use mir.Facts.{to_z-of_z}
 use mir.Syntax.{w32}
 use Rattle.goal.proofs.Facts.{fact-is}

@@ -1,5 +1,4 @@
 -- `goal_fact_bad` meets its contract.
-use borrow.Author.Rules.{rules}
 use Rattle.records.proofs.Tests.{chain}
 use Rattle.model.specs.Goal.{goal_fact_bad}
 use Rattle.goal.proofs.Facts.{differ, agree}

@@ -1,5 +1,4 @@
 -- `later_bad` meets its contract.
-use borrow.Author.Rules.{rules}
 use borrow.Author.Tests.{le-leb, lt-leb}
 use Rattle.model.specs.Goal.{later_bad}
 use Rattle.goal.proofs.later_bad.Goals as goal

@@ -1,5 +1,4 @@
 -- `later_places_bad` meets its contract: one return a place.
-use borrow.Author.Rules.{rules}
 use Rattle.records.proofs.Tests.{chain}
 use Rattle.model.specs.Goal.{later_places_bad}
 use Rattle.goal.proofs.later_places_bad.Goals as goal

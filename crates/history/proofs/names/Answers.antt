@@ -1,5 +1,4 @@
 -- `history::names` meets its contract: an entry names a fact where one of its four identifiers does.
-use borrow.Author.Rules.{rules}
 use Rattle.history.proofs.Remembered.{named-1, named-2, named-3, named-4}
 use Rattle.history.proofs.names.Goals as goal
 

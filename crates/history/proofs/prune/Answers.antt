@@ -1,10 +1,6 @@
 -- `history::prune` meets its contract: the first places hold what is kept of the entries passed, and the places behind are as they were.
-use Prim.Native.Nat.{◌-◌}
-use lib.ListN.{drop}
 use borrow.Author.Rules.{rules}
-use Rattle.chosen.specs.Views.{ids_of}
-use Rattle.model.proofs.Compacting.{Compacting}
-use Rattle.history.proofs.Remembered.{unnamed, prune-start, forget, remember, prune-done}
+use Rattle.history.proofs.Remembered.{prune-start, forget, remember, prune-done}
 use Rattle.history.proofs.prune.Goals as goal
 
 pub loop-i-init : goal.loop-i-init

@@ -1,10 +1,8 @@
 -- `history::recorded` meets its contract: what is left of the entries answers for the whole.
-use mathlib.Core.Path.{◌≡◌, refl, sym, ◌∙◌}
-use Prim.Native.Nat.{ℕ, ◌+◌, ◌-◌, ◌≤◌, ◌<◌}
-use lib.ListN.{drop, length}
+use mathlib.Core.Path.{◌≡◌}
+use Prim.Native.Nat.{◌-◌}
 use Rattle.model.specs.Search.{in_history}
-use borrow.Author.Rules.{rules}
-use Rattle.history.proofs.Remembered.{past_from, past-start, past-hit, past-miss, past-none}
+use Rattle.history.proofs.Remembered.{past_from}
 use Rattle.history.specs.Views.{fired_at, past_of}
 use Rattle.history.proofs.recorded.Given as goal
 

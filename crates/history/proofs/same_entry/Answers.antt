@@ -1,5 +1,4 @@
 -- `history::same_entry` meets its contract: five numbers are equal where the rule and the identifiers are.
-use borrow.Author.Rules.{rules}
 use Rattle.history.proofs.Remembered.{differ-0, differ-1, differ-2, differ-3, by-last}
 use Rattle.history.proofs.same_entry.Goals as goal
 

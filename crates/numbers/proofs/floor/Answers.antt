@@ -1,6 +1,5 @@
 -- `numbers::floor` meets its contract: what it divides is not below 0 and fits 32 bits without a sign, and the turns before and after the division are
 -- those of the definition (Rounding). Assumes nothing.
-use borrow.Author.Rules.{rules}
 use Rattle.numbers.proofs.Rounding.{to-unsigned, dividend-is, divisor-is, divisor-above, quotient-plain, plain-fits, floored}
 use Rattle.numbers.proofs.floor.Goals as goal
 

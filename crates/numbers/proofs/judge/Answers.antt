@@ -1,6 +1,5 @@
 -- `numbers::judge` meets its contract: up to 5 the answer is that of `holds`, and above 5 there is none.
 -- Assumes nothing.
-use borrow.Author.Rules.{rules}
 use borrow.Author.Tests.{le-leb, lt-leb}
 use mathlib.Core.Bool.{Bool, true, false}
 use mathlib.Core.Path.{◌≡◌, sym, ◌∙◌}

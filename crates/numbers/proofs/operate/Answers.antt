@@ -1,8 +1,7 @@
 -- `numbers::operate` meets its contract: each arm's function is the operation of its number, and no other number is one.
 -- Assumes nothing.
-use borrow.Author.Rules.{rules}
 use borrow.Author.Tests.{ne_eqb}
-use Rattle.std.proofs.Common.{◌≡◌, ◌≢◌, ◌∙◌, arith}
+use Rattle.std.proofs.Common.{◌≡◌, ◌≢◌, arith}
 use mir.Facts.{to_z-of_z}
 use Rattle.numbers.specs.Numbers.{operate}
 use Rattle.numbers.proofs.operate.Goals as goal

@@ -1,5 +1,4 @@
 -- `numbers::quotient` meets its contract: by 0 there is none, and by any other number it is what `floor` gives, if that fits. Assumes nothing.
-use borrow.Author.Rules.{rules}
 use mathlib.Core.Path.{sym, ◌∙◌}
 use Rattle.numbers.specs.Numbers.{quotient_of}
 use Rattle.numbers.proofs.Machine.{by-zero, by-other, read-other}

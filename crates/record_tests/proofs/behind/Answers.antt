@@ -1,6 +1,5 @@
 -- `record_tests::behind` meets its contract: one arm a kind.
 use native.Mathlib.Omega.{arith}
-use borrow.Author.Rules.{rules}
 use Rattle.model.specs.Reading.{behind}
 use Rattle.record_tests.proofs.Counts.{symbol-few, rule-few, kept-few, removed-few, guard-few, fact-few, fail-few}
 use Rattle.record_tests.proofs.behind.Goals as goal

@@ -1,5 +1,4 @@
 -- `record_tests::fields` meets its contract.
-use borrow.Author.Rules.{rules}
 use Rattle.records.proofs.Tests.{chain}
 use Rattle.model.specs.Reading.{fields_of}
 use Rattle.record_tests.proofs.fields.Goals as goal

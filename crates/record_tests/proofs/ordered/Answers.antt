@@ -1,5 +1,4 @@
 -- `record_tests::ordered` meets its contract.
-use native.Mathlib.Omega.{arith}
 use borrow.Author.Rules.{rules}
 use Rattle.records.proofs.Tests.{chain, flag}
 use Rattle.model.specs.Reading.{ordered_of}

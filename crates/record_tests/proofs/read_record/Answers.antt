@@ -1,5 +1,4 @@
 -- `record_tests::read_record` meets its contract.
-use borrow.Author.Rules.{rules}
 use Rattle.records.proofs.Tests.{chain}
 use Rattle.model.specs.Reading.{record_of}
 use Rattle.record_tests.proofs.read_record.Goals as goal

@@ -1,5 +1,4 @@
 -- `record_tests::tested` meets its contract.
-use native.Mathlib.Omega.{arith}
 use borrow.Author.Rules.{rules}
 use Rattle.records.proofs.Tests.{chain}
 use Rattle.model.specs.Reading.{tested_of}

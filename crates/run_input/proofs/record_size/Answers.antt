@@ -1,6 +1,5 @@
 -- `run_input::record_size` meets its contract: the size of the kind. Assumes nothing.
 use mathlib.Core.Path.{ap, ◌∙◌}
-use borrow.Author.Rules.{rules}
 use Rattle.model.specs.Records.{size_of}
 use Rattle.run_input.proofs.record_size.Goals as goal
 

@@ -1,7 +1,5 @@
 -- `run_input::table_end` meets its contract. The invariant: what is left of the records answers for the whole input. Assumes nothing.
-use native.Mathlib.Omega.{arith}
-use borrow.Author.Rules.{rules}
-use Rattle.run_input.proofs.Turns.{Left, first, out, ended, end-record, unknown, cut, next}
+use Rattle.run_input.proofs.Turns.{Left}
 use Rattle.run_input.proofs.table_end.Given as goal
 
 abbrev pub invariant-loop-left : goal.invariant-loop-left

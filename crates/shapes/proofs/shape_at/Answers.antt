@@ -1,6 +1,5 @@
 -- `shape_at` meets its contract.
 use mathlib.Core.Path.{refl}
-use borrow.Author.Rules.{rules}
 use Rattle.shapes.specs.Columns.{shape_at}
 use Rattle.shapes.proofs.shape_at.Goals as goal
 

@@ -1,5 +1,4 @@
 -- `check` meets its contract.
-use borrow.Author.Rules.{rules}
 use Rattle.table.proofs.Verdicts.{place-fits, checked-good, checked-refused}
 use Rattle.table.proofs.check.Goals as goal
 

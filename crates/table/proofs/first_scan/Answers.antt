@@ -1,5 +1,4 @@
 -- `first_scan` meets its contract.
-use borrow.Author.Rules.{rules}
 use Rattle.table.proofs.first_scan.Goals as goal
 
 pub returns : goal.returns

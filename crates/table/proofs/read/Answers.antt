@@ -2,7 +2,7 @@
 -- rule being read.
 use native.Mathlib.Omega.{arith}
 use borrow.Author.Rules.{rules}
-use Rattle.table.proofs.Turns.{Left, left-begins, near, follows, rule-among, next-none, next-rule, read-stopped, read-done, read-out}
+use Rattle.table.proofs.Turns.{left-begins, near, follows, rule-among, next-none, next-rule, read-stopped, read-done, read-out}
 use Rattle.table.proofs.read.Goals as goal
 
 pub loop-left-init : goal.loop-left-init

@@ -1,8 +1,6 @@
 -- `read` meets its contract. The invariant: what is left of the records answers for the whole table, the scan is sane, and the marks are those of the
 -- rule being read.
-use native.Mathlib.Omega.{arith}
-use borrow.Author.Rules.{rules}
-use Rattle.table.proofs.Turns.{Left, left-begins, near, follows, rule-among, next-none, next-rule, read-stopped, read-done, read-out}
+use Rattle.table.proofs.Turns.{Left}
 use Rattle.table.proofs.read.Given as goal
 
 abbrev pub invariant-loop-left : goal.invariant-loop-left

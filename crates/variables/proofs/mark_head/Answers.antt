@@ -1,5 +1,4 @@
 -- `variables::mark_head` meets its contract: one slot after the other.
-use borrow.Author.Rules.{rules}
 use Rattle.variables.proofs.Marks.{head-marked}
 use Rattle.variables.proofs.mark_head.Goals as goal
 

@@ -1,5 +1,4 @@
 -- `variables::mark_slot` meets its contract: one arm a slot.
-use borrow.Author.Rules.{rules}
 use Rattle.variables.proofs.Marks.{variable-small, unused-marked, constant-marked, variable-marked, bad-marked}
 use Rattle.variables.proofs.mark_slot.Goals as goal
 

@@ -1,5 +1,4 @@
 -- `variables::strange` meets its contract: one arm a kind.
-use borrow.Author.Rules.{rules}
 use Rattle.model.specs.Variables.{strange}
 use Rattle.variables.proofs.strange.Goals as goal
 

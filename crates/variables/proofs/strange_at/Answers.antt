@@ -1,5 +1,4 @@
 -- `variables::strange_at` meets its contract: one return a test.
-use borrow.Author.Rules.{rules}
 use Rattle.variables.proofs.Marks.{is-marked, too-high, by-tag}
 use Rattle.variables.proofs.strange_at.Goals as goal
 

@@ -1,5 +1,4 @@
 -- `variables::strange_expression` meets its contract: one return a slot.
-use borrow.Author.Rules.{rules}
 use Rattle.records.proofs.Tests.{chain}
 use Rattle.model.specs.Variables.{strange_expression}
 use Rattle.variables.proofs.strange_expression.Goals as goal

@@ -1,5 +1,4 @@
 -- `variables::strange_fact` meets its contract: one return an expression.
-use borrow.Author.Rules.{rules}
 use Rattle.records.proofs.Tests.{chain}
 use Rattle.model.specs.Variables.{strange_fact}
 use Rattle.variables.proofs.strange_fact.Goals as goal

@@ -1,5 +1,4 @@
 -- `variables::strange_guard` meets its contract: one return an expression.
-use borrow.Author.Rules.{rules}
 use Rattle.records.proofs.Tests.{chain}
 use Rattle.model.specs.Variables.{strange_guard}
 use Rattle.variables.proofs.strange_guard.Goals as goal

@@ -1,14 +1,12 @@
 -- `wire::bits` meets its contract: -1 less a negative number is the number's magnitude, which 32 bits hold, and any other number
 -- is its bits. Assumes nothing.
 use mathlib.Core.Path.{◌≡◌, ap, ◌∙◌}
-use native.Mathlib.Omega.{arith}
 use lib.IntN.{ℤ, pos, negsuc, nat_abs, ◌-ℤ◌}
 use lib.Signed.{mag}
 use mir.Facts.{to_z-of_z}
 use mir.Syntax.{w32}
 use mir.Val.{SFits, to_z, of_z}
 use Rattle.wire.specs.Wire.{bits_of}
-use Rattle.wire.proofs.Laws.{bits-below}
 use Rattle.wire.proofs.Machine.{up, bits-up, bits-kept}
 use Rattle.wire.proofs.bits.Goals as goal
 use Rattle.wire.proofs.bits.Goals.{Else-v-lt0, Then-v-lt0}

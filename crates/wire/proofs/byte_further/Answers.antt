@@ -1,6 +1,5 @@
 -- `wire::byte_further` meets its contract: at + k is worked out where it is below the length, and past the end the definition
 -- reads 0 too. Assumes nothing.
-use borrow.Author.Rules.{rules}
 use Prim.Native.Nat.{◌+◌}
 use native.Mathlib.Omega.{arith}
 use Rattle.wire.proofs.Laws.{past-end}

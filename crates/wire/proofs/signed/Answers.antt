@@ -1,6 +1,5 @@
 -- `wire::signed` meets its contract: below 2 ^ 31 the number is itself, and from there on -1 less what it lacks of 2 ^ 32 - 1.
 -- Assumes nothing.
-use borrow.Author.Rules.{rules}
 use mathlib.Core.Path.{◌≡◌, ap, sym, ◌∙◌}
 use Prim.Native.Nat.{ℕ, suc, ◌-◌, ◌<◌, ◌≤◌}
 use native.Mathlib.Omega.{arith}

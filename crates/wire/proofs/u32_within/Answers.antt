@@ -1,6 +1,5 @@
 -- `wire::u32_within` meets its contract, which is `join`'s at the four bytes.
 -- Assumes nothing.
-use borrow.Author.Rules.{rules}
 use Rattle.wire.specs.Wire.{u32_at}
 use Rattle.wire.proofs.u32_within.Goals as goal
 

@@ -1,5 +1,4 @@
 -- `records::geometry::arity_at` meets its contract.
-use borrow.Author.Rules.{rules}
 use Rattle.model.specs.Fields.{arity_at}
 use Rattle.records.proofs.geometry.arity_at.Goals as goal
 

@@ -1,5 +1,4 @@
 -- `geometry::behind_item` meets its contract: a fact takes its own bytes and fail one.
-use borrow.Author.Rules.{rules}
 use Rattle.model.specs.Table.{behind_item}
 use Rattle.records.proofs.Tests.{chain}
 use Rattle.records.proofs.geometry.behind_item.Goals as goal

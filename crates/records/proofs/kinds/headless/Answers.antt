@@ -1,5 +1,4 @@
 -- `kinds::headless` meets its contract: one arm a kind.
-use borrow.Author.Rules.{rules}
 use Rattle.records.proofs.kinds.headless.Goals as goal
 
 pub returns-in-NextSymbol : goal.returns-in-NextSymbol

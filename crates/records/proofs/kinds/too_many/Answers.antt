@@ -1,5 +1,4 @@
 -- `kinds::too_many` meets its contract: one arm a kind.
-use borrow.Author.Rules.{rules}
 use Rattle.records.proofs.kinds.too_many.Goals as goal
 
 pub returns-in-NextSymbol : goal.returns-in-NextSymbol

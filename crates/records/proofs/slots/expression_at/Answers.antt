@@ -1,5 +1,4 @@
 -- `slots::expression_at` meets its contract.
-use borrow.Author.Rules.{rules}
 use Rattle.model.specs.Slots.{expression_at}
 use Rattle.records.proofs.slots.expression_at.Goals as goal
 

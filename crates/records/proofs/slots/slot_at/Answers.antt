@@ -1,5 +1,4 @@
 -- `slots::slot_at` meets its contract.
-use borrow.Author.Rules.{rules}
 use Rattle.model.specs.Slots.{slot_at}
 use Rattle.records.proofs.slots.slot_at.Goals as goal
 

@@ -1,6 +1,5 @@
 -- `slots::slot_by` meets its contract: one return a case of the definition.
 use native.Mathlib.Omega.{arith}
-use borrow.Author.Rules.{rules}
 use Rattle.records.proofs.Tests.{tests}
 use Rattle.model.specs.Slots.{slot_by}
 use Rattle.records.proofs.Constants.{constant-slot}

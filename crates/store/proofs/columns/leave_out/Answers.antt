@@ -1,10 +1,6 @@
 -- `store::columns::leave_out` meets its contract: the first rows hold what stays of the rows passed, and the rows behind are as they were.
-use Prim.Native.Nat.{◌-◌}
-use lib.ListN.{drop}
 use borrow.Author.Rules.{rules}
-use Rattle.chosen.specs.Views.{ids_of}
-use Rattle.store.specs.Views.{columns_of}
-use Rattle.store.proofs.Stock.{Leaving, leave-none, leave-out, leave-there, leave-in, left}
+use Rattle.store.proofs.Stock.{leave-none, leave-out, leave-there, leave-in, left}
 use Rattle.store.proofs.columns.leave_out.Goals as goal
 
 pub loop-i-init : goal.loop-i-init

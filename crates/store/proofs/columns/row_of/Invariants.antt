@@ -1,9 +1,8 @@
 -- `store::columns::row_of` meets its contract: what is left of the rows gives the row that the whole gives.
 use mathlib.Core.Path.{◌≡◌}
 use Prim.Native.Nat.{◌-◌}
-use borrow.Author.Rules.{rules}
 use Rattle.store.specs.Views.{row_of}
-use Rattle.store.proofs.Looked.{looked_from, look-start, look-hit, look-miss, look-none}
+use Rattle.store.proofs.Looked.{looked_from}
 use Rattle.store.proofs.columns.row_of.Given as goal
 
 abbrev pub invariant-loop-i : goal.invariant-loop-i

@@ -1,7 +1,6 @@
 -- `values::bodies::work_out` meets its contract: what the items that are left come to, behind those that are worked out, is what the body comes to.
 use borrow.Author.Rules.{rules}
-use Rattle.values.specs.Views.{binding_of}
-use Rattle.values.proofs.Worked.{Working, work-first, work-here, work-behind, work-room, work-lacks, work-more, work-done}
+use Rattle.values.proofs.Worked.{work-first, work-here, work-behind, work-room, work-lacks, work-more, work-done}
 use Rattle.values.proofs.bodies.work_out.Goals as goal
 
 pub loop-left-init : goal.loop-left-init

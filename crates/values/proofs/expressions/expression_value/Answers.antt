@@ -1,5 +1,4 @@
 -- `values::expressions::expression_value` meets its contract: the operation is the numbers' own, on the values of the two slots.
-use borrow.Author.Rules.{rules}
 use Rattle.values.proofs.Evaluating.{expression-value-is}
 use Rattle.values.proofs.expressions.expression_value.Goals as goal
 

@@ -1,5 +1,4 @@
 -- `values::guards::comparison_value` meets its contract: both sides are worked out where they lie.
-use borrow.Author.Rules.{rules}
 use Rattle.values.proofs.Evaluating.{comparison-is}
 use Rattle.values.proofs.guards.comparison_value.Goals as goal
 

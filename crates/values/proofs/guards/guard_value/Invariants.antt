@@ -1,12 +1,10 @@
 -- `values::guards::guard_value` meets its contract: what is left of the list has the value of the whole, up to the first comparison that is not true.
-use mathlib.Core.Path.{◌≡◌, refl}
+use mathlib.Core.Path.{◌≡◌}
 use Prim.Native.Nat.{◌+◌, ◌*◌, ◌≤◌}
 use lib.ListN.{length}
 use Rattle.model.specs.Guards.{guard_value}
 use Rattle.model.specs.Table.{guards_from}
-use borrow.Author.Rules.{rules}
 use Rattle.values.specs.Views.{binding_of}
-use Rattle.values.proofs.Evaluating.{guard-true, guard-false, guard-unknown, guard-none}
 use Rattle.values.proofs.guards.guard_value.Given as goal
 
 abbrev pub invariant-loop-left : goal.invariant-loop-left
