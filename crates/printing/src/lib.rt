@@ -8,6 +8,7 @@ use records::geometry;
 
 // The streams that a program begins with.
 const STDOUT_FILENO: i32 = 1;
+
 const STDERR_FILENO: i32 = 2;
 
 pub fn put(text: &[u8]) {
