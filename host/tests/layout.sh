@@ -58,7 +58,7 @@ holds "no line of a definition or a proof has more than 160 characters" longer_l
 holds "no function has more than 110 lines" too_many 0 110
 holds "one function alone, the loop of a run, has more than 80 lines" too_many 1 80
 holds "at most three functions have more than 60 lines" too_many 3 60
-holds "proofs look back over fewer than 2,500 points" look_backs 2500
+holds "proofs look back over fewer than 50 points" look_backs 50
 
 echo "$passed passed, $failed failed"
 [ "$failed" -eq 0 ]
