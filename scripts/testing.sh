@@ -75,10 +75,10 @@ have_cxx() {
     fi
 }
 
-# quietly COMMAND...: shows what a command prints only where it fails.
+# quietly COMMAND...: shows what a command prints only where it fails, without zero bytes, which a shell's variable does not hold.
 quietly() {
     local log
-    log=$("$@" 2>&1) && return
+    log=$("$@" 2>&1 | tr -d '\0'; exit "${PIPESTATUS[0]}") && return
     echo "$log"
     return 1
 }
