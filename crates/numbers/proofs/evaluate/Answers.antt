@@ -1,4 +1,5 @@
--- `numbers::evaluate` meets its contract.
+-- `numbers::evaluate` meets its contract: operation 0 is the first value, any other works on two numbers, and an undefined
+-- value leaves the result undefined.
 use Rattle.std.proofs.Common.{eq-eqb, SFits, to_z-of_z}
 use Rattle.std.specs.Int.{w32}
 use borrow.Author.Tests.{ne_eqb}

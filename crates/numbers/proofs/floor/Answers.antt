@@ -10,7 +10,7 @@ pub overflow_cast-divisor : goal.overflow_cast-divisor
 overflow_cast-divisor c = to-unsigned (divisor-is c.ranges.b c.turned-divisor.ensures)
 
 pub nonzero_div-quotient : goal.nonzero_div-quotient
-nonzero_div-quotient c = let s = c in divisor-above s.requires (divisor-is s.ranges.b c.turned-divisor.ensures)
+nonzero_div-quotient c = divisor-above c.requires (divisor-is c.ranges.b c.turned-divisor.ensures)
 
 pub overflow_cast-quotient : goal.overflow_cast-quotient
 overflow_cast-quotient c =

@@ -9,17 +9,14 @@ use Rattle.numbers.proofs.narrow.Goals as goal
 
 pub returns-then-x-lt-LOWEST : goal.returns-then-x-lt-LOWEST
 returns-then-x-lt-LOWEST c =
-    let s = c in
-    sym (too-low s.args.x (simp (to_z-of_z s.ranges.x) at c.if-x-lt-LOWEST.true))
+    sym (too-low c.args.x (simp (to_z-of_z c.ranges.x) at c.if-x-lt-LOWEST.true))
 
 pub returns-then-x-gt-HIGHEST : goal.returns-then-x-gt-HIGHEST
 returns-then-x-gt-HIGHEST c =
-    let s = c in
-    sym (too-high s.args.x (simp (to_z-of_z s.ranges.x) at c.if-x-gt-HIGHEST.true))
+    sym (too-high c.args.x (simp (to_z-of_z c.ranges.x) at c.if-x-gt-HIGHEST.true))
 
 pub returns : goal.returns
 returns c =
-    let s = c in
-    let f = s.ranges.x in
-    let g : SFits w32 s.args.x = simp (to_z-of_z f) at (fits-32 (to_z w64 (of_z w64 s.args.x)) c.if-x-lt-LOWEST.false c.if-x-gt-HIGHEST.false) in
-    simp (to_z-of_z f, to_z-of_z g, within s.args.x (simp (to_z-of_z f) at c.if-x-lt-LOWEST.false) (simp (to_z-of_z f) at c.if-x-gt-HIGHEST.false))
+    let f = c.ranges.x in
+    let g : SFits w32 c.args.x = simp (to_z-of_z f) at (fits-32 (to_z w64 (of_z w64 c.args.x)) c.if-x-lt-LOWEST.false c.if-x-gt-HIGHEST.false) in
+    simp (to_z-of_z f, to_z-of_z g, within c.args.x (simp (to_z-of_z f) at c.if-x-lt-LOWEST.false) (simp (to_z-of_z f) at c.if-x-gt-HIGHEST.false))

@@ -6,7 +6,7 @@ use Rattle.wire.proofs.Laws.{past-end}
 use Rattle.wire.proofs.byte_further.Goals as goal
 
 pub returns-then-s-at : goal.returns-then-s-at
-returns-then-s-at c = let s = c in past-end s.args.s.now (s.args.at + s.args.k) (omega arith)
+returns-then-s-at c = past-end c.args.s.now (c.args.at + c.args.k) (omega arith)
 
 pub returns : goal.returns
-returns c = let s = c in past-end s.args.s.now (s.args.at + s.args.k) (omega arith)
+returns c = past-end c.args.s.now (c.args.at + c.args.k) (omega arith)
