@@ -1,2 +1,2 @@
 pub mod Pasting
-pub mod Rows
+pub mod Records

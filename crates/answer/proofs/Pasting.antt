@@ -1,70 +1,48 @@
--- Bytes that are pasted into a list: what stands before them and behind them is kept. A store and a word are pastes, and two pastes one behind
--- the other are one, so that a record that is written piece by piece is pasted as a whole.
+-- Bytes written into a list from its beginning on: what lies behind them is kept. Bytes that are written behind others are one writing with them.
 use Prim.Native.Nat.{ℕ, ◌+◌, ◌≤◌, ◌<◌}
-use mathlib.Core.Path.{◌≡◌, refl, ap, ◌∙◌}
+use mathlib.Core.Path.{◌≡◌, refl, sym, ap, ◌∙◌}
 use mathlib.Core.List.{List, [], ◌∷◌, ◌++◌, append_assoc}
 use native.Mathlib.Omega.{arith}
 use native.Mathlib.Numerals.{add-one}
-use lib.ListN.{length, take, drop, set, length-append, length-set}
-use lib.Seq.{length-take-le, take_at, drop-append-add, drop-drop, set_split}
+use borrow.Rule.Slice.PartMut.{put_mid}
+use lib.ListN.{length, take, drop, set, length-append, length-drop}
+use lib.Seq.{take_at, drop-append-add, drop-drop, set_split}
 use Rattle.wire.specs.Wire.{bytes4, put_u32}
-use Rattle.wire.proofs.Laws.{put-parts, length-put}
+use Rattle.wire.proofs.Laws.{put-parts}
 
--- s with the n bytes x from `at` on
-abbrev pub pasted : ℕ → ℕ → List ℕ → List ℕ → List ℕ
-pasted at n x s = take at s ++ (x ++ drop (at + n) s)
-
-module _ (s : List ℕ) (at n : ℕ) (x : List ℕ) (e : length x ≡ n) (h : at + n ≤ length s) where
-  front-length : length (take at s ++ x) ≡ at + n
-  front-length = length-append (take at s) x ∙ omega (arith, length-take-le at s (omega arith))
-
-  pasted-take : take (at + n) (pasted at n x s) ≡ take at s ++ x
-  pasted-take = rw (← append_assoc (take at s) x (drop (at + n) s)) (take_at (take at s ++ x) (drop (at + n) s) (at + n) front-length)
-
-  pasted-drop : (m : ℕ) → drop (at + n + m) (pasted at n x s) ≡ drop (at + n + m) s
-  pasted-drop m =
-      rw (← append_assoc (take at s) x (drop (at + n) s), ← front-length)
-      (drop-append-add (take at s ++ x) (drop (length (take at s ++ x)) s) m ∙ drop-drop m (length (take at s ++ x)) s)
-
-  pub pasted-next : (m : ℕ) (y : List ℕ) → pasted (at + n) m y (pasted at n x s) ≡ pasted at (n + m) (x ++ y) s
-  pasted-next m y =
-      let k : at + n + m ≡ at + (n + m) = omega arith in
-      rw (pasted-take, pasted-drop m, k, append_assoc (take at s) x (y ++ drop (at + (n + m)) s), append_assoc x y (drop (at + (n + m)) s))
-
-first-byte : (s : List ℕ) (at b : ℕ) → at < length s → set s at b ≡ pasted at 1 (b ∷ []) s
-first-byte s at b h = rw (add-one at) (set_split s at b h)
-
--- u is s with the n bytes x from `at` on, which fit
-pub record Pasted (s : List ℕ) (at n : ℕ) (x u : List ℕ) : Type 0 where
-  pub same : u ≡ pasted at n x s
+-- u is s with the n bytes x at its beginning
+pub record Begins (s : List ℕ) (n : ℕ) (x u : List ℕ) : Type 0 where
+  pub same : u ≡ x ++ drop n s
   pub sized : length x ≡ n
+  pub room : n ≤ length s
+
+pub nothing-yet : (s : List ℕ) → Begins s 0 [] s
+nothing-yet s = record { same = refl; sized = refl; room = omega arith }
+
+module _ {s : List ℕ} {n : ℕ} {x u : List ℕ} (b : Begins s n x u) where
   pub long : length u ≡ length s
+  long = ap length b.same ∙ length-append x (drop n s) ∙ omega (arith, b.sized, b.room, length-drop n s)
 
--- a first byte; and one byte more, or one word, behind what was pasted
-pub byte-pasted : (s : List ℕ) (at b : ℕ) → at < length s → Pasted s at 1 (b ∷ []) (set s at b)
-byte-pasted s at b h = record { same = first-byte s at b h; sized = refl; long = length-set s at b }
+  back : (m : ℕ) → drop (n + m) u ≡ drop (n + m) s
+  back m =
+      ap (drop (n + m)) b.same ∙ ap (λ (k : ℕ). drop (k + m) (x ++ drop n s)) (sym b.sized)
+      ∙ drop-append-add x (drop n s) m ∙ drop-drop m n s
 
-module _ {s : List ℕ} {at n : ℕ} {x u : List ℕ} (p : Pasted s at n x u) where
-  pub more-byte : (b : ℕ) → at + n + 1 ≤ length s → Pasted s at (n + 1) (x ++ (b ∷ [])) (set u (at + n) b)
-  more-byte b h =
-      record {
-        same =
-            first-byte u (at + n) b (omega (arith, p.long))
-            ∙ ap (pasted (at + n) 1 (b ∷ [])) p.same
-            ∙ pasted-next s at n x p.sized (omega arith) 1 (b ∷ []);
-        sized = length-append x (b ∷ []) ∙ omega (arith, p.sized);
-        long = length-set u (at + n) b ∙ p.long;
-      }
+  module _ (m : ℕ) (y : List ℕ) (l : length y ≡ m) (h : n + m ≤ length s) where
+    more : {v : List ℕ} → v ≡ take n u ++ (y ++ drop (n + m) u) → Begins s (n + m) (x ++ y) v
+    more e = record {
+      same = e ∙ ap (λ (w : List ℕ). take n w ++ (y ++ drop (n + m) u)) b.same
+          ∙ rw (take_at x (drop n s) n b.sized, back m, append_assoc x y (drop (n + m) s)) refl;
+      sized = length-append x y ∙ omega (arith, b.sized, l);
+      room = h;
+    }
 
-  pub more-word : {v : List ℕ} (w : ℕ) → at + n + 4 ≤ length s → v ≡ put_u32 u (at + n) w → Pasted s at (n + 4) (x ++ bytes4 w) v
+    pub more-part : {v : List ℕ} → v ≡ put_mid n m u y → Begins s (n + m) (x ++ y) v
+    more-part e = more (e ∙ ap (λ (w : List ℕ). take n u ++ (y ++ w)) (drop-drop m n u))
+
+  pub more-byte : (c : ℕ) → n < length s → {v : List ℕ} → v ≡ set u n c → Begins s (n + 1) (x ++ c ∷ []) v
+  more-byte c h e = more 1 (c ∷ []) refl (omega arith) (e ∙ rw add-one (set_split u n c (omega (arith, long))))
+
+  pub more-word : (w : ℕ) → n + 4 ≤ length s → {v : List ℕ} → v ≡ put_u32 u n w → Begins s (n + 4) (x ++ bytes4 w) v
   unfolding bytes4
-  more-word w h e =
-      record {
-        same =
-            e
-            ∙ put-parts u (at + n) w (omega (arith, p.long))
-            ∙ ap (pasted (at + n) 4 (bytes4 w)) p.same
-            ∙ pasted-next s at n x p.sized (omega arith) 4 (bytes4 w);
-        sized = length-append x (bytes4 w) ∙ omega (arith, p.sized);
-        long = ap length e ∙ length-put u (at + n) w ∙ p.long;
-      }
+  more-word w h e = more 4 (bytes4 w) refl h (e ∙ put-parts u n w (omega (arith, long)))

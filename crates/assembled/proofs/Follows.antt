@@ -3,7 +3,7 @@
 use Prim.Native.Nat.{ℕ, ◌+◌}
 use mathlib.Core.Path.{◌≡◌, refl, sym, ap, ◌∙◌, subst}
 use mathlib.Core.Bool.{true, false}
-use mathlib.Core.Option.{Option, none, some}
+use Rattle.std.specs.Prelude.{Option, None, Some}
 use mathlib.Core.List.{List, [], ◌∷◌, ◌++◌}
 use native.Mathlib.Omega.{arith}
 use lib.ListN.{length, set, replicate, length-append, length-replicate, get_or-replicate}
@@ -38,12 +38,12 @@ module _ {s : Progress} {a : Assembly} {buf : List ℕ} (t : Token) (h : Holds s
       subst (λ (x : Assembly). Outcome (bytes_of s) o (moved x t)) (sym h.same)
       (subst (λ (x : Option Progress). Outcome (bytes_of s) x (moved (flat_of s) t)) e (outcome s h.few t))
 
-  pub holds-step : {s' : Progress} → step s t ≡ some s' → Holds s' (moved a t).to (lay_all (moved a t).pieces buf)
+  pub holds-step : {s' : Progress} → step s t ≡ Some s' → Holds s' (moved a t).to (lay_all (moved a t).pieces buf)
   holds-step {s'} e =
       let f : Follows (bytes_of s) s' (moved a t).to (moved a t).pieces = token-does e in
       record { same = f.same; held = held-alike (held-all (moved a t).pieces h.held) f.bytes; few = f.few }
 
-  pub holds-stuck : step s t ≡ none → (moved a t).to.phase ≡ Stuck
+  pub holds-stuck : step s t ≡ None → (moved a t).to.phase ≡ Stuck
   holds-stuck e = token-does e
 
 -- ---- stuck or not
@@ -83,27 +83,27 @@ never-stuck h e =
     omega arith
 
 module _ {s : Progress} {a : Assembly} {buf : List ℕ} (t : Token) (h : Holds s a buf) where
-  pub step-free : {s' : Progress} → step s t ≡ some s' → is_stuck (moved a t).to.phase ≡ false
+  pub step-free : {s' : Progress} → step s t ≡ Some s' → is_stuck (moved a t).to.phase ≡ false
   step-free e = holds-free (holds-step t h e)
 
-  pub stuck-told : step s t ≡ none → is_stuck (moved a t).to.phase ≡ true
+  pub stuck-told : step s t ≡ None → is_stuck (moved a t).to.phase ≡ true
   unfolding is_stuck
   stuck-told e = ap is_stuck (holds-stuck t h e)
 
   -- and back
-  pub told-stuck : is_stuck (moved a t).to.phase ≡ true → step s t ≡ none
+  pub told-stuck : is_stuck (moved a t).to.phase ≡ true → step s t ≡ None
   told-stuck e = go (step s t) refl
     where
-      go : (o : Option Progress) → step s t ≡ o → step s t ≡ none
-      go none d = d
-      go (some s') d = let f = step-free d in let z : ◌≡◌ {A = ℕ} 0 1 = cc in absurd (omega arith)
+      go : (o : Option Progress) → step s t ≡ o → step s t ≡ None
+      go None d = d
+      go (Some s') d = let f = step-free d in let z : ◌≡◌ {A = ℕ} 0 1 = cc in absurd (omega arith)
 
-  pub free-step : is_stuck (moved a t).to.phase ≡ false → (s' : Progress) × (step s t ≡ some s')
+  pub free-step : is_stuck (moved a t).to.phase ≡ false → (s' : Progress) × (step s t ≡ Some s')
   free-step e = go (step s t) refl
     where
-      go : (o : Option Progress) → step s t ≡ o → (s' : Progress) × (step s t ≡ some s')
-      go none d = let f = stuck-told d in let z : ◌≡◌ {A = ℕ} 0 1 = cc in absurd (omega arith)
-      go (some s') d = (s', d)
+      go : (o : Option Progress) → step s t ≡ o → (s' : Progress) × (step s t ≡ Some s')
+      go None d = let f = stuck-told d in let z : ◌≡◌ {A = ℕ} 0 1 = cc in absurd (omega arith)
+      go (Some s') d = (s', d)
 
 -- ---- the end of a text
 
@@ -114,8 +114,8 @@ pub record Ended (s : Progress) (w : TableTree) : Type 0 where
   pub encoded : front_of s ++ (8 ∷ []) ≡ encode w
 
 abbrev End : Progress → Option TableTree → Type 0
-End s none = ends (phase_of s) ≡ false
-End s (some w) = Ended s w
+End s None = ends (phase_of s) ≡ false
+End s (Some w) = Ended s w
 
 end-of : (s : Progress) → End s (whole s)
 unfolding whole front_of bytes_of phase_of ends
@@ -144,32 +144,32 @@ module _ {s : Progress} {a : Assembly} {buf : List ℕ} (h : Holds s a buf) wher
   phase-same : ends a.phase ≡ ends (phase_of s)
   phase-same = ap (λ (x : Assembly). ends x.phase) h.same
 
-  ended : {w : TableTree} → whole s ≡ some w → Ended s w
+  ended : {w : TableTree} → whole s ≡ Some w → Ended s w
   ended e = subst (End s) e (end-of s)
 
-  pub whole-ends : {w : TableTree} → whole s ≡ some w → ends a.phase ≡ true
+  pub whole-ends : {w : TableTree} → whole s ≡ Some w → ends a.phase ≡ true
   whole-ends e = phase-same ∙ (ended e).ends
 
-  pub whole-open : whole s ≡ none → ends a.phase ≡ false
+  pub whole-open : whole s ≡ None → ends a.phase ≡ false
   whole-open e = phase-same ∙ subst (End s) e (end-of s)
 
   -- and back
-  pub ends-whole : ends a.phase ≡ true → (w : TableTree) × (whole s ≡ some w)
+  pub ends-whole : ends a.phase ≡ true → (w : TableTree) × (whole s ≡ Some w)
   ends-whole e = go (whole s) refl
     where
-      go : (o : Option TableTree) → whole s ≡ o → (w : TableTree) × (whole s ≡ some w)
-      go none d = let f = whole-open d in let z : ◌≡◌ {A = ℕ} 0 1 = cc in absurd (omega arith)
-      go (some w) d = (w, d)
+      go : (o : Option TableTree) → whole s ≡ o → (w : TableTree) × (whole s ≡ Some w)
+      go None d = let f = whole-open d in let z : ◌≡◌ {A = ℕ} 0 1 = cc in absurd (omega arith)
+      go (Some w) d = (w, d)
 
-  pub open-whole : ends a.phase ≡ false → whole s ≡ none
+  pub open-whole : ends a.phase ≡ false → whole s ≡ None
   open-whole e = go (whole s) refl
     where
-      go : (o : Option TableTree) → whole s ≡ o → whole s ≡ none
-      go none d = d
-      go (some w) d = let f = whole-ends d in let z : ◌≡◌ {A = ℕ} 0 1 = cc in absurd (omega arith)
+      go : (o : Option TableTree) → whole s ≡ o → whole s ≡ None
+      go None d = d
+      go (Some w) d = let f = whole-ends d in let z : ◌≡◌ {A = ℕ} 0 1 = cc in absurd (omega arith)
 
   -- the byte 8 ends the table
-  pub holds-whole : {w : TableTree} → whole s ≡ some w → (a.at + 1 ≡ length (encode w)) × Held (set buf a.at 8) (encode w)
+  pub holds-whole : {w : TableTree} → whole s ≡ Some w → (a.at + 1 ≡ length (encode w)) × Held (set buf a.at 8) (encode w)
   holds-whole {w} e =
       let f = ended e in
       let here : a.at ≡ length (front_of s) = ap (λ (x : Assembly). x.at) h.same in

@@ -3,7 +3,7 @@
 use Prim.Native.Nat.{ℕ}
 use mathlib.Core.Path.{◌≡◌, refl, ap}
 use mathlib.Core.Bool.{Bool, true, false}
-use mathlib.Core.Option.{Option, none, some}
+use Rattle.std.specs.Prelude.{Option, None, Some}
 use mathlib.Core.List.{List, [], ◌∷◌, ◌++◌}
 use lib.ListN.{length}
 use Rattle.text.specs.Token.{Token, Mark}
@@ -51,21 +51,21 @@ also-only false m s a h l = l
 
 -- where no edge leads on, the assembly is stuck
 abbrev pub Outcome : List ℕ → Option Progress → Moved → Type 0
-Outcome bs none m = m.to.phase ≡ Stuck
-Outcome bs (some s) m = Follows bs s m.to m.pieces
+Outcome bs None m = m.to.phase ≡ Stuck
+Outcome bs (Some s) m = Follows bs s m.to m.pieces
 
 pub linked : {bs : List ℕ} {es : List Edge} {ms : List Move} → Linked bs es ms → (t : Token) → Outcome bs (reading.along es t) (laying.along ms t)
-unfolding reading.along reading.by laying.along laying.by
+unfolding reading.along reading.by laying.along
 linked done t = refl
 linked {bs} (also {c} {to} {at} {pieces} {es} {ms} h l) t = go (reading.along es t) (laying.along ms t) (linked l t) (said c t)
   where
     go : (o : Option Progress) (m : Moved) → Outcome bs o m → (x : Option (Said c)) → Outcome bs (reading.by c to o x) (laying.by c at pieces m x)
-    go o m k none = k
-    go o m k (some x) = h x
+    go o m k None = k
+    go o m k (Some x) = h x
 
 -- what is laid before
 pub outcome-before : (q : Piece) (bs : List ℕ) (o : Option Progress) (m : Moved) → Outcome (put_bytes q.place q.bytes bs) o m
     → Outcome bs o (before q m)
 unfolding put_all
-outcome-before q bs none m h = h
-outcome-before q bs (some s) m h = record { same = h.same; bytes = h.bytes; few = h.few }
+outcome-before q bs None m h = h
+outcome-before q bs (Some s) m h = record { same = h.same; bytes = h.bytes; few = h.few }

@@ -1,7 +1,7 @@
 -- A token leads on by no more than the longest record, a body fact of 46 bytes: by the phase.
 use Prim.Native.Nat.{ℕ, ◌+◌, ◌*◌, ◌≤◌}
 use mathlib.Core.Bool.{Bool, true, false, cond}
-use mathlib.Core.Option.{Option, none, some}
+use Rattle.std.specs.Prelude.{Option, None, Some}
 use mathlib.Core.List.{List, [], ◌∷◌, ◌++◌}
 use native.Mathlib.Omega.{arith}
 use lib.Dec.{ltb, eqb}
@@ -24,13 +24,13 @@ AllNear n [] = Unit {0}
 AllNear n (move c to pieces ∷ ms) = ((x : Said c) → (to x).at ≤ n) × AllNear n ms
 
 along-near : (n : ℕ) (ms : List Move) (t : Token) → AllNear n ms → (along ms t).to.at ≤ n
-unfolding along by
+unfolding along
 along-near n [] t h = omega arith
 along-near n (move c to pieces ∷ ms) t h = go (along ms t) (along-near n ms t h.1) (said c t)
   where
     go : (m : Moved) → m.to.at ≤ n → (x : Option (Said c)) → (by c to pieces m x).to.at ≤ n
-    go m l none = l
-    go m l (some x) = h.0 x
+    go m l None = l
+    go m l (Some x) = h.0 x
 
 head-near : (n at : ℕ) (g : Group) → at ≤ n → AllNear n (behind_head at g)
 head-near n at (First start) h = omega arith
@@ -82,8 +82,8 @@ begins-near at k t =
     along-near (at + 46) (behind_symbol (at + 1) (First (at + 1))) t ((λ x. omega arith), head-near (at + 46) (at + 1 + 22) (First (at + 1)) (omega arith))
 
 slashed-near : (at : ℕ) (m : Moved) → m.to.at ≤ at + 46 → (x : Option (Unit {0})) → (slashed_by at m x).to.at ≤ at + 46
-slashed-near at m h none = h
-slashed-near at m h (some x) = omega arith
+slashed-near at m h None = h
+slashed-near at m h (Some x) = omega arith
 
 named-near : (at k : ℕ) (t : Token) (b : Bool) → (cond b (slashed_by at (beginning at k t) (slash_said t)) (beginning at k t)).to.at ≤ at + 46
 named-near at k t true = slashed-near at (beginning at k t) (begins-near at k t) (slash_said t)

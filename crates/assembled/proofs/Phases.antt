@@ -3,7 +3,7 @@
 use Prim.Native.Nat.{ℕ, ◌+◌, ◌*◌}
 use mathlib.Core.Path.{◌≡◌, refl, sym, ap, ◌∙◌}
 use mathlib.Core.Bool.{Bool, true, false, cond}
-use mathlib.Core.Option.{Option, none, some}
+use Rattle.std.specs.Prelude.{Option, None, Some}
 use mathlib.Core.List.{List, [], ◌∷◌, ◌++◌, append_assoc}
 use native.Mathlib.Omega.{arith}
 use lib.Dec.{eqb}
@@ -85,8 +85,8 @@ module _ (ns : List ℕ) (k : ℕ) (t : Token) where
       Outcome (table_bytes w) (reading.by slash (λ y. slashed ns) (reading.along (reading.behind_symbol (first w) [] k) t) x)
       (slashed_by (length (table_bytes w)) (beginning (length (table_bytes w)) k t) x)
   unfolding reading.by front_of bytes_of phase_of Few
-  slashes none = begun
-  slashes (some x) = stays (slashed ns) refl (alike-same refl) tt
+  slashes None = begun
+  slashes (Some x) = stays (slashed ns) refl (alike-same refl) tt
 
   tested : (b : Bool) → let w = table_with ns [] in
       Outcome (table_bytes w) (reading.along (reading.only b (edge slash (λ y. slashed ns) ∷ []) ++ reading.behind_symbol (first w) [] k) t)

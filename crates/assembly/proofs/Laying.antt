@@ -1,29 +1,41 @@
 -- Bytes laid one after the other are the pieces of the definition.
 use Prim.Native.Nat.{ℕ, zero, suc, ◌+◌, ◌*◌, ◌-◌, ◌/◌, ◌%◌, ◌≤◌, ◌<◌}
 use mathlib.Core.Path.{◌≡◌, refl, sym, ◌∙◌}
-use mathlib.Core.List.{List, ◌∷◌}
+use mathlib.Core.List.{List, [], ◌∷◌}
 use native.Mathlib.Omega.{arith}
 use lib.ListN.{set, length, length-set}
 use lib.Seq.{set_out}
 use Rattle.wire.specs.Wire.{bytes4}
-use Rattle.assembly.specs.Pieces.{lay, lay_all}
+use Rattle.assembly.specs.Pieces.{piece, lay, lay_all}
 use Rattle.assembly.specs.Moves.{removed_from}
 
 -- past the end nothing is laid
-pub put-out : (s : List ℕ) (p b : ℕ) → length s ≤ p → s ≡ set s p b
-put-out s p b h = sym (set_out s p b h)
+pub put_out : (s : List ℕ) (p b : ℕ) → length s ≤ p → s ≡ set s p b
+put_out s p b h = sym (set_out s p b h)
 
 -- a tag and the four bytes of a value
-pub five-laid : (p tag value : ℕ) (s : List ℕ) {s1 s2 s3 s4 s5 : List ℕ} → s1 ≡ set s p tag → s2 ≡ set s1 (p + 1) (value % 256)
+pub five_laid : (p tag value : ℕ) (s : List ℕ) {s1 s2 s3 s4 s5 : List ℕ} → s1 ≡ set s p tag → s2 ≡ set s1 (p + 1) (value % 256)
     → s3 ≡ set s2 (p + 2) (value / 256 % 256) → s4 ≡ set s3 (p + 3) (value / 65536 % 256) → s5 ≡ set s4 (p + 4) (value / 16777216 % 256)
     → s5 ≡ lay p (tag ∷ bytes4 value) s
 unfolding lay bytes4
-five-laid p tag value s a b c d e =
+five_laid p tag value s a b c d e =
     let k1 : p + 1 ≡ suc p = omega arith in
     let k2 : p + 2 ≡ suc (suc p) = omega arith in
     let k3 : p + 3 ≡ suc (suc (suc p)) = omega arith in
     let k4 : p + 4 ≡ suc (suc (suc (suc p))) = omega arith in
     rw (e, d, c, b, a, k1, k2, k3, k4)
+
+pub two_laid : {s1 s2 : List ℕ} (s : List ℕ) (p a b : ℕ) → s1 ≡ set s p a → s2 ≡ set s1 (p + 1) b → s2 ≡ lay_all (piece p (a ∷ b ∷ []) ∷ []) s
+unfolding lay_all lay
+two_laid s p a b e d = let k : p + 1 ≡ suc p = omega arith in rw (d, e, k)
+
+pub three_laid : {s1 s2 s3 : List ℕ} (s : List ℕ) (p a b c : ℕ) → s1 ≡ set s p a → s2 ≡ set s1 (p + 1) b → s3 ≡ set s2 (p + 2) c
+    → s3 ≡ lay_all (piece p (a ∷ b ∷ c ∷ []) ∷ []) s
+unfolding lay_all lay
+three_laid s p a b c e d f =
+    let k : p + 1 ≡ suc p = omega arith in
+    let j : p + 2 ≡ suc (suc p) = omega arith in
+    rw (f, d, e, j, k)
 
 -- ---- the kinds of heads
 
@@ -54,3 +66,5 @@ module _ {start n p : ℕ} {before s : List ℕ} where
 
   pub laid-done : {left : ℕ} → Laid start n p left before s → left ≤ 0 → s ≡ lay_all (removed_from start n) before
   laid-done {left} l h = done left l h
+
+pub ruleset laid = (put_out, two_laid, three_laid, five_laid)

@@ -1,5 +1,5 @@
 -- Assembling a table from tokens: what each token writes into the table's bytes.
 pub mod Pieces
 pub mod Moves
-pub mod Words
+pub mod Slots
 pub mod Advances

@@ -1,6 +1,6 @@
 -- What a token does: how the assembly goes on, and which bytes are laid into the table. It goes along the edges of crate parsing, phase by phase.
 use Rattle.std.specs.Prelude.{ℕ, zero, suc, ◌+◌, ◌*◌, ◌-◌, ◌/◌, Bool, true, false, cond, List, [], ◌∷◌, ◌++◌, ltb, eqb}
-use Rattle.std.proofs.Math.Option.{Option, none, some}
+use Rattle.std.specs.Prelude.{Option, None, Some}
 use Rattle.grammar.specs.Tree.{comparator_number, operation_number}
 use Rattle.grammar.specs.Encode.{term_bytes, symbol_bytes}
 use Rattle.text.specs.Token as text
@@ -132,9 +132,9 @@ pub record Moved : Type 0 where
 abbrev pub moving : Assembly → List Piece → Moved
 moving a ps = record { to = a; pieces = ps }
 
-unfoldable pub by : (c : Class) → (Said c → Assembly) → (Said c → List Piece) → Moved → Option (Said c) → Moved
-by c to pieces later none = later
-by c to pieces later (some x) = moving (to x) (pieces x)
+abbrev pub by : (c : Class) → (Said c → Assembly) → (Said c → List Piece) → Moved → Option (Said c) → Moved
+by c to pieces later None = later
+by c to pieces later (Some x) = moving (to x) (pieces x)
 
 -- the first move that the token makes; stuck where there is none
 abbrev pub stuck_there : Moved
@@ -152,8 +152,8 @@ abbrev pub beginning : ℕ → ℕ → text.Token → Moved
 beginning at k t = before (rule_begins at k) (along (behind_symbol (at + 1) (First (at + 1))) t)
 
 abbrev pub slashed_by : ℕ → Moved → Option (Unit {0}) → Moved
-slashed_by at later none = later
-slashed_by at later (some x) = moving (here at Slashed) []
+slashed_by at later None = later
+slashed_by at later (Some x) = moving (here at Slashed) []
 
 -- "k is the number of declarations before it": each of them took two bytes
 abbrev pub moved_named : ℕ → ℕ → text.Token → Moved

@@ -5,77 +5,77 @@ ghost use Rattle.assembly.specs.Moves.{moves_of, body_moves, item_moves, behind_
 ghost use Rattle.assembly.specs.Advances.{Near, Goes, Stays};
 
 use crate::pieces::{put, put_pair, put_slot};
-use crate::words::{here, is_slot, stuck};
-use crate::{Assembly, Phase, Side, Word};
+use crate::slots::{here, slot_of, stuck};
+use crate::{Assembly, Phase, Side};
 use records::geometry::FactBytes;
+use tokens::{Mark, Token};
 
-pub fn item(at: usize, w: Word, table: &mut [u8]) -> Assembly
+pub fn item(at: usize, t: Token, table: &mut [u8]) -> Assembly
     requires { Near at }
-    ensures { Goes w (item_moves at) table.old result table.new }
+    ensures { Goes t (item_moves at) table.old result table.new }
 {
-    if w.class == Word::SYMBOL {
-        let symbol = w.number;
-        put_pair(table, at, 6, symbol);
-        return here(at, Phase::ItemNamed);
+    match t {
+        Token::Symbol(symbol) => {
+            put_pair(table, at, 6, symbol);
+            here(at, Phase::ItemNamed)
+        }
+        Token::Mark(Mark::Fail) => {
+            put(table, at, 7);
+            here(at + 1, Phase::ItemDone)
+        }
+        _ => stuck(),
     }
-    if w.class == Word::FAIL {
-        put(table, at, 7);
-        return here(at + 1, Phase::ItemDone);
-    }
-    stuck()
 }
 
-pub fn body(at: usize, w: Word, table: &mut [u8]) -> Assembly
+pub fn body(at: usize, t: Token, table: &mut [u8]) -> Assembly
     requires { Near at }
-    ensures { Goes w (body_moves at) table.old result table.new }
+    ensures { Goes t (body_moves at) table.old result table.new }
 {
-    if w.class == Word::TRUE {
+    if let Token::Mark(Mark::True) = t {
         return here(at, Phase::Emptied);
     }
-    item(at, w, table)
+    item(at, t, table)
 }
 
 // Behind "<=>" or "==>": the first slot of a comparison, or the body.
-pub fn headed(at: usize, w: Word, table: &mut [u8]) -> Assembly
+pub fn headed(at: usize, t: Token, table: &mut [u8]) -> Assembly
     requires { Near at }
-    ensures { Goes w (moves_of at Headed) table.old result table.new }
+    ensures { Goes t (moves_of at Headed) table.old result table.new }
 {
-    if is_slot(w) {
+    if let Some(slot) = slot_of(t) {
         put(table, at, 5);
-        put_slot(table, at + 3, w);
+        put_slot(table, at + 3, slot);
         return here(at, Phase::Term(Side::Left));
     }
-    body(at, w, table)
+    body(at, t, table)
 }
 
-pub fn emptied(at: usize, w: Word) -> Assembly
-    ensures { Stays w (moves_of at Emptied) result }
+pub fn emptied(at: usize, t: Token) -> Assembly
+    ensures { Stays t (moves_of at Emptied) result }
 {
-    if w.class == Word::STOP {
+    if let Token::Mark(Mark::Stop) = t {
         return here(at, Phase::Ruled);
     }
     stuck()
 }
 
-pub fn behind_item(at: usize, w: Word) -> Assembly
-    ensures { Stays w (behind_item at) result }
+pub fn behind_item(at: usize, t: Token) -> Assembly
+    ensures { Stays t (behind_item at) result }
 {
-    if w.class == Word::COMMA {
-        return here(at, Phase::ItemNext);
+    match t {
+        Token::Mark(Mark::Comma) => here(at, Phase::ItemNext),
+        Token::Mark(Mark::Stop) => here(at, Phase::Ruled),
+        _ => stuck(),
     }
-    if w.class == Word::STOP {
-        return here(at, Phase::Ruled);
-    }
-    stuck()
 }
 
 // Behind the symbol of a body fact.
-pub fn item_named(at: usize, w: Word) -> Assembly
+pub fn item_named(at: usize, t: Token) -> Assembly
     requires { Near at }
-    ensures { Stays w (moves_of at ItemNamed) result }
+    ensures { Stays t (moves_of at ItemNamed) result }
 {
-    if w.class == Word::OPENS {
+    if let Token::Mark(Mark::Opens) = t {
         return here(at, Phase::Wants(Side::Argument(0)));
     }
-    behind_item(at + FactBytes::LEN, w)
+    behind_item(at + FactBytes::LEN, t)
 }

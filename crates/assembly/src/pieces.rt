@@ -5,9 +5,10 @@ ghost use Rattle.assembly.specs.Advances.{Near};
 ghost use Rattle.assembly.specs.Pieces.{lay, lay_all, piece};
 ghost use Rattle.assembly.specs.Moves.{removed_from};
 
-use crate::Word;
+use crate::slots::Slot;
 use records::geometry::HeadBytes;
 
+#[tactic(auto, using(crate::proofs::Laying::laid))]
 pub fn put(table: &mut [u8], p: usize, b: u8)
     ensures { table.new ≡ set table.old p b }
 {
@@ -16,6 +17,7 @@ pub fn put(table: &mut [u8], p: usize, b: u8)
     }
 }
 
+#[tactic(auto, using(crate::proofs::Laying::laid))]
 pub fn put_pair(table: &mut [u8], p: usize, a: u8, b: u8)
     requires { p ≤ 8589934592 }
     ensures { table.new ≡ lay_all (piece p (a ∷ b ∷ []) ∷ []) table.old }
@@ -24,13 +26,13 @@ pub fn put_pair(table: &mut [u8], p: usize, a: u8, b: u8)
     put(table, p + 1, b);
 }
 
-pub fn put_slot(table: &mut [u8], p: usize, w: Word)
+#[tactic(auto, using(crate::proofs::Laying::laid))]
+pub fn put_slot(table: &mut [u8], p: usize, slot: Slot)
     requires { p ≤ 8589934592 }
-    ensures { table.new ≡ lay p (w.class ∷ bytes4 w.value) table.old }
+    ensures { table.new ≡ lay p (slot.tag ∷ bytes4 slot.value) table.old }
 {
-    let tag = w.class;
-    let value = w.value;
-    put(table, p, tag);
+    let value = slot.value;
+    put(table, p, slot.tag);
     put(table, p + 1, (value % 256) as u8);
     put(table, p + 2, (value / 256 % 256) as u8);
     put(table, p + 3, (value / 65536 % 256) as u8);

@@ -1,31 +1,37 @@
-// The identifiers chosen for the heads of a rule, in head order: an array of four, of which the first ones are in use.
+// Identifiers among others, and what stays of a list where some are gone.
 #![tactic(auto)]
 
-ghost use Rattle.std.specs.Prelude.{◌≡◌, drop, get_or};
-ghost use Rattle.model.specs.Search.{is_among, nobody};
-ghost use Rattle.chosen.specs.Views.{fact_id, ids_of, Held};
+ghost use Rattle.std.specs.Prelude.{◌≡◌, ◌≤◌, length, take, Bool};
+ghost use Rattle.model.specs.Search.{is_among};
+ghost use Rattle.model.specs.Steps.{keep};
 
-use model::{FactId, Rule};
+use model::FactId;
 
-// Is an identifier among those at from..to?
-pub fn is_among(id: FactId, ids: &[u32; Rule::HEADS], from: usize, to: usize) -> bool
-    requires { Held ids.now to }
-    ensures { result ≡ is_among id (drop from (ids_of to ids.now)) }
+// Is an identifier among these?
+pub fn is_among(id: FactId, ids: &[FactId]) -> bool
+    ensures { result ≡ is_among id ids.now }
 {
-    let mut i = from;
-    while i < to {
-        if id.0 == ids[i] {
-            return true;
-        }
-        i += 1;
-    }
-    false
+    ids.contains(&id)
 }
 
-// The identifier at a place, or 0 where none is chosen.
-pub fn nth(ids: &[u32; Rule::HEADS], n: usize, i: usize) -> u32
-    requires { Held ids.now n }
-    ensures { fact_id result ≡ get_or (ids_of n ids.now) i nobody }
+// What stays of a list goes to its front, in order. Gives how many those are.
+pub fn retain<T: Copy, F: Fn(&T) -> bool>(items: &mut [T], stays: F) -> usize
+    requires { F.IsAlwaysCallable stays }
+    ensures kept { (test : T → Bool) → ((x : _) (r : Bool) → F.post stays x r → r ≡ test x.now)
+        → take result items.new ≡ keep test items.old }
+    ensures fewer { result ≤ length items.old }
+    ensures long { length items.new ≡ length items.old }
 {
-    if i < n { ids[i] } else { 0 }
+    let mut kept = 0;
+    for i in 0..items.len() {
+        let item = items[i];
+        if stays(&item) {
+            // Until one is left out, each is where it belongs.
+            if kept < i {
+                items[kept] = item;
+            }
+            kept += 1;
+        }
+    }
+    kept
 }

@@ -20,8 +20,7 @@ fn place_bad(used: bool, slot: Slot) -> bool
 {
     match slot {
         Slot::Unused => used,
-        Slot::Constant(_) => !used,
-        Slot::Variable(_) => !used,
+        Slot::Constant(_) | Slot::Variable(_) => !used,
         Slot::Bad => true,
     }
 }
@@ -39,16 +38,7 @@ fn places_bad(table: &[u8], p: usize, arity: u8) -> bool
     requires { p + 20 ≤ length table.now }
     ensures { result ≡ places_bad table.now p arity }
 {
-    if slot_bad(table, p, 0 < arity) {
-        return true;
-    }
-    if slot_bad(table, p + SlotBytes::SECOND, 1 < arity) {
-        return true;
-    }
-    if slot_bad(table, p + SlotBytes::THIRD, 2 < arity) {
-        return true;
-    }
-    slot_bad(table, p + SlotBytes::FOURTH, 3 < arity)
+    (0..4).any(|k: usize| slot_bad(table, p + SlotBytes::LEN * k, k < arity as usize))
 }
 
 // The greatest operation of a place.
@@ -67,10 +57,8 @@ fn expression_bad(table: &[u8], p: usize, used: bool) -> bool
     if top(used) < operation {
         return true;
     }
-    if slot_bad(table, p + ExpressionBytes::LEFT, used) {
-        return true;
-    }
-    slot_bad(table, p + ExpressionBytes::RIGHT, 0 < operation)
+    slot_bad(table, p + ExpressionBytes::LEFT, used)
+        || slot_bad(table, p + ExpressionBytes::RIGHT, 0 < operation)
 }
 
 // Four expressions from p, of which the first `arity` are used.
@@ -78,16 +66,7 @@ fn arguments_bad(table: &[u8], p: usize, arity: u8) -> bool
     requires { p + 44 ≤ length table.now }
     ensures { result ≡ arguments_bad table.now p arity }
 {
-    if expression_bad(table, p, 0 < arity) {
-        return true;
-    }
-    if expression_bad(table, p + ExpressionBytes::SECOND, 1 < arity) {
-        return true;
-    }
-    if expression_bad(table, p + ExpressionBytes::THIRD, 2 < arity) {
-        return true;
-    }
-    expression_bad(table, p + ExpressionBytes::FOURTH, 3 < arity)
+    (0..4).any(|k: usize| expression_bad(table, p + ExpressionBytes::LEN * k, k < arity as usize))
 }
 
 fn head_bad(table: &[u8], at: usize, symbols: u8) -> bool
@@ -95,14 +74,8 @@ fn head_bad(table: &[u8], at: usize, symbols: u8) -> bool
     ensures { result ≡ head_bad table.now at symbols }
 {
     let symbol = table[at + HeadBytes::SYMBOL];
-    if symbols <= symbol {
-        return true;
-    }
-    places_bad(
-        table,
-        at + HeadBytes::SLOT_0,
-        geometry::arity_at(table, Symbol(symbol)),
-    )
+    let arity = geometry::arity_at(table, Symbol(symbol));
+    symbols <= symbol || places_bad(table, at + HeadBytes::SLOT_0, arity)
 }
 
 fn guard_bad(table: &[u8], at: usize) -> bool
@@ -112,41 +85,29 @@ fn guard_bad(table: &[u8], at: usize) -> bool
     if 5 < table[at + GuardBytes::COMPARATOR] {
         return true;
     }
-    if expression_bad(table, at + GuardBytes::LEFT, true) {
-        return true;
-    }
-    expression_bad(table, at + GuardBytes::RIGHT, true)
+    expression_bad(table, at + GuardBytes::LEFT, true)
+        || expression_bad(table, at + GuardBytes::RIGHT, true)
 }
 
+// Kept: as `head_bad` but for its places; one function for both would take two offsets and the test of the places as parameters.
 fn body_fact_bad(table: &[u8], at: usize, symbols: u8) -> bool
     requires { at + size_of BodyFact ≤ length table.now }
     ensures { result ≡ body_fact_bad table.now at symbols }
 {
     let symbol = table[at + FactBytes::SYMBOL];
-    if symbols <= symbol {
-        return true;
-    }
-    arguments_bad(
-        table,
-        at + FactBytes::ARGUMENT_0,
-        geometry::arity_at(table, Symbol(symbol)),
-    )
+    let arity = geometry::arity_at(table, Symbol(symbol));
+    symbols <= symbol || arguments_bad(table, at + FactBytes::ARGUMENT_0, arity)
 }
 
-pub fn bad_field(table: &[u8], s: Scan, k: Kind) -> bool
-    requires { s.at + size_of k ≤ length table.now }
-    ensures { result ≡ bad_field table.now s k }
+pub fn bad_field(table: &[u8], s: &Scan, k: Kind) -> bool
+    requires { s.now.at + size_of k ≤ length table.now }
+    ensures { result ≡ bad_field table.now s.now k }
 {
-    let at = s.at;
     match k {
-        Kind::NextSymbol => 4 < table[at + SymbolBytes::ARITY],
-        Kind::NextRule => false,
-        Kind::KeptHead => head_bad(table, at, s.symbols),
-        Kind::RemovedHead => head_bad(table, at, s.symbols),
-        Kind::Comparison => guard_bad(table, at),
-        Kind::BodyFact => body_fact_bad(table, at, s.symbols),
-        Kind::BodyFail => false,
-        Kind::EndOfTable => false,
-        Kind::Unknown => false,
+        Kind::NextSymbol => 4 < table[s.at + SymbolBytes::ARITY],
+        Kind::KeptHead | Kind::RemovedHead => head_bad(table, s.at, s.symbols),
+        Kind::Comparison => guard_bad(table, s.at),
+        Kind::BodyFact => body_fact_bad(table, s.at, s.symbols),
+        Kind::NextRule | Kind::BodyFail | Kind::EndOfTable => false,
     }
 }

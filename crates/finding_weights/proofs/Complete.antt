@@ -1,11 +1,10 @@
 -- From bytes: where every rule of a good table has one removed head, the call finds weights if there are any, and the least.
 use Prim.Native.Nat.{ℕ}
 use mathlib.Core.Path.{◌≡◌, sym, ap, subst, ◌∙◌}
-use mathlib.Core.Option.{none}
 use mathlib.Core.List.{List}
 use lib.ListN.{length}
 use borrow.Author.Tests.{eq-eqb}
-use Rattle.model.specs.declared.Verdict.TheVariants.{Good}
+use Rattle.std.specs.Prelude.{None, Ok}
 use Rattle.model.specs.Reading.{read_of}
 use Rattle.model.specs.Table.{table_of}
 use Rattle.model.specs.Weights.{weight_in, first_heavy}
@@ -21,8 +20,8 @@ pub record FindsLeast (t buffer vs : List ℕ) : Type 0 where
   pub zero : (find_of t buffer).result.number ≡ 0
   pub below : Below vs (find_of t buffer).weights
 
-pub find-complete : (t buffer vs : List ℕ) → (read_of t).verdict ≡ Good → length buffer ≡ (read_of t).symbols → OneRemoved (table_of t).rules
-    → Each vs Weight → first_heavy (weight_in vs) 0 (table_of t).rules ≡ none → FindsLeast t buffer vs
+pub find-complete : (t buffer vs : List ℕ) → (read_of t).verdict ≡ Ok tt → length buffer ≡ (read_of t).symbols → OneRemoved (table_of t).rules
+    → Each vs Weight → first_heavy (weight_in vs) 0 (table_of t).rules ≡ None → FindsLeast t buffer vs
 unfolding find_of find_table find_count find_ended
 find-complete t buffer vs good room one weights loses =
     let g = good-table t good in

@@ -9,8 +9,8 @@ use lib.Dec.{eqb}
 use lib.ListN.{length}
 use borrow.Author.Tests.{eq-eqb}
 use Rattle.model.specs.declared.CallResult.{CallResult}
-use Rattle.model.specs.declared.Verdict.{Verdict}
-use Rattle.model.specs.declared.Verdict.TheVariants.{Good, Refused}
+use Rattle.std.specs.Prelude.{Ok, Err}
+use Rattle.model.specs.Refusals.{Verdict, number_of}
 use Rattle.model.specs.Reading.{read_of}
 use Rattle.model.specs.Table.{Head, Rule, heads, table_of}
 use Rattle.model.specs.Goal.{goal_verdict}
@@ -35,12 +35,12 @@ removed-declared t g =
 
 -- the weights given are accepted
 pub record Usable (t ws : List ℕ) : Type 0 where
-  pub table : (read_of t).verdict ≡ Good
+  pub table : (read_of t).verdict ≡ Ok tt
   pub accepted : Accepted (table_of t).rules (read_of t).symbols ws
 
 -- the weights at which the search stopped
 pub record StoppedAt (t : List ℕ) (r : ℕ) : Type 0 where
-  pub table : (read_of t).verdict ≡ Good
+  pub table : (read_of t).verdict ≡ Ok tt
   pub weights : List ℕ
   pub stuck : Stuck (table_of t).rules r weights
 
@@ -53,12 +53,12 @@ module _ (t buffer : List ℕ) where
   refused-says : (n p : ℕ) → (n ≡ 0 → ⊥) → (n ≡ 42 → ⊥) → Says t buffer (finding (refusal n p) buffer)
   refused-says n p a b = record { zero = λ e. absurd (a e); heavy = λ e. absurd (b e); kept = λ h. refl }
 
-  ended-says : (read_of t).verdict ≡ Good → (s : Sought) → Settled (table_of t).rules (read_of t).symbols s → Says t buffer (find_ended buffer s)
+  ended-says : (read_of t).verdict ≡ Ok tt → (s : Sought) → Settled (table_of t).rules (read_of t).symbols s → Says t buffer (find_ended buffer s)
   unfolding find_ended
   ended-says g (found ws) a = record { zero = λ e. record { table = g; accepted = a }; heavy = λ e. absurd (omega arith); kept = λ h. absurd (h refl) }
   ended-says g (stopped r ws) a = record { zero = λ e. absurd (omega arith); heavy = λ e. record { table = g; weights = ws; stuck = a }; kept = λ h. refl }
 
-  count-says : (read_of t).verdict ≡ Good → (b : Bool) → Says t buffer (find_count t buffer b)
+  count-says : (read_of t).verdict ≡ Ok tt → (b : Bool) → Says t buffer (find_count t buffer b)
   unfolding find_count
   count-says g true =
       let k = good-table t g in
@@ -68,10 +68,10 @@ module _ (t buffer : List ℕ) where
 
   table-says : (v : Verdict) → (read_of t).verdict ≡ v → Says t buffer (find_table t buffer v)
   unfolding find_table
-  table-says Good e = count-says e (eqb (length buffer) (read_of t).symbols)
-  table-says (Refused n p) e =
-      let r = refusal-small t n p e in
-      refused-says n p (λ (z : n ≡ 0). omega (arith, r.low)) (λ (z : n ≡ 42). omega (arith, r.high))
+  table-says (Ok u) e = count-says e (eqb (length buffer) (read_of t).symbols)
+  table-says (Err a) e =
+      let r = refusal-small t a e in
+      refused-says (number_of a.reason) a.place (λ (z : number_of a.reason ≡ 0). omega (arith, r.low)) (λ (z : number_of a.reason ≡ 42). omega (arith, r.high))
 
   pub find-says : Says t buffer (find_of t buffer)
   unfolding find_of
@@ -98,9 +98,9 @@ module _ (t ws g : List ℕ) where
 
   goal-alone : (v : Verdict) → goal_verdict t (read_of t).symbols g ≡ v → GoalAlone (weigh_goal t ws g v).result.number
   unfolding weighed
-  goal-alone Good e = record { not_table = λ a b. omega arith; not_count = λ a. omega arith; not_zero = λ a. omega arith; not_heavy = λ a. omega arith }
-  goal-alone (Refused n p) e =
-      let r = goal-places t (read_of t).symbols g n p e in
+  goal-alone (Ok u) e = record { not_table = λ a b. omega arith; not_count = λ a. omega arith; not_zero = λ a. omega arith; not_heavy = λ a. omega arith }
+  goal-alone (Err a) e =
+      let r = goal-places t (read_of t).symbols g a e in
       record {
         not_table = λ a b. omega (arith, r.low);
         not_count = λ a. omega (arith, r.high);

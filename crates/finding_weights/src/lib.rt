@@ -3,47 +3,33 @@
 // loses weight with 1 and 2.
 #![tactic(auto)]
 
-ghost use Rattle.std.specs.Prelude.{◌≡◌, true, eqb, length};
-ghost use Rattle.model.specs.Reading.{read_of};
-ghost use Rattle.rule_weights.specs.Views.{Known};
-ghost use Rattle.finding_weights.specs.Find.{Begins, Gives, find_count, find_of};
+ghost use Rattle.model.specs.Calls.{verdict_result};
+ghost use Rattle.finding_weights.specs.Find.{Gives, find_of};
 
-use model::{CallResult, Reading, Table, Verdict};
-use rule_weights::FirstRule;
+use model::{CallResult, Reason, Refusal, Table};
+use rule_weights::good::GoodTable;
 
-fn write(found: &[u8], weights: &mut [u8])
-    requires { length found.now ≡ length weights.old }
-    ensures { weights.new ≡ found.now }
+// Searches in an array of its own, so that `weights` is written only with what is found.
+fn try_find(table: &[u8], weights: &mut [u8]) -> Result<(), Refusal>
+    ensures { Gives (find_of table.now weights.old) (verdict_result result) weights.new }
 {
-    weights.copy_from_slice(found);
-}
-
-// Searches in `own`, so that `weights` is written only with what is found.
-fn find_from(table: &[u8], reading: Reading, own: &mut [u8], weights: &mut [u8]) -> CallResult
-    requires { Begins table.now reading own.old weights.old }
-    ensures { Gives (find_count table.now weights.old true) result weights.new }
-{
-    match raises::search(table, reading, own) {
-        FirstRule::Nothing => {
-            write(own, weights);
-            CallResult::refusal(0, 0)
-        }
-        FirstRule::At(rule) => CallResult::refusal(42, rule.0 as u32),
-    }
-}
-
-// 40: "weight count differs from symbols".
-fn find_count(table: &[u8], reading: Reading, weights: &mut [u8]) -> CallResult
-    requires { Known table.now reading }
-    ensures { Gives (find_count table.now weights.old (eqb (length weights.old) (read_of table.now).symbols))
-        result weights.new }
-{
-    let symbols = reading.symbols as usize;
+    let reading = table::read(table);
+    reading.verdict?;
+    let good = GoodTable {
+        bytes: table,
+        reading: &reading,
+    };
+    let symbols = usize::from(reading.symbols);
     if weights.len() != symbols {
-        return CallResult::refusal(40, 0);
+        return Err(Refusal::at(Reason::WeightCount, 0));
     }
-    let mut own = [1u8; Table::SYMBOLS];
-    find_from(table, reading, &mut own[0..symbols], weights)
+    let mut own = [1; Table::SYMBOLS];
+    let own = &mut own[..symbols];
+    if let Some(rule) = raises::search(&good, own) {
+        return Err(Refusal::at(Reason::HeavyRule, usize::from(rule.0)));
+    }
+    weights.copy_from_slice(own);
+    Ok(())
 }
 
 // Looks for weights, one byte a symbol, with which weighing does not refuse the table. They are written where they are found; otherwise the
@@ -51,10 +37,8 @@ fn find_count(table: &[u8], reading: Reading, weights: &mut [u8]) -> CallResult
 pub fn find_weights(table: &[u8], weights: &mut [u8]) -> CallResult
     ensures { Gives (find_of table.now weights.old) result weights.new }
 {
-    let reading = table::read(table);
-    let verdict = reading.verdict;
-    match verdict {
-        Verdict::Good => find_count(table, reading, weights),
-        Verdict::Refused(n, p) => CallResult::refusal(n, p as u32),
+    match try_find(table, weights) {
+        Ok(()) => CallResult::refusal(0, 0),
+        Err(refusal) => refusal.into(),
     }
 }

@@ -5,14 +5,12 @@ use mathlib.Core.List.{List}
 use mathlib.Core.Bool.{Bool, true, false, not}
 use native.Mathlib.Omega.{arith}
 use lib.Dec.{eqb}
-use lib.IntN.{ℤ}
 use borrow.Author.Tests.{eq-eqb, ne_eqb}
 use Rattle.records.proofs.Tests.{flag}
-use Rattle.wire.specs.Wire.{i32_at}
-use Rattle.model.specs.Table.{symbol_at}
-use Rattle.model.specs.Goal.{fact_at, goal_fact_bad, facts_verdict}
-use Rattle.model.specs.declared.Fact.{Fact}
-use Rattle.model.specs.declared.Verdict.TheVariants.{Good, Refused}
+use Rattle.std.specs.Prelude.{Ok}
+use Rattle.model.specs.Goal.{goal_fact_bad, facts_verdict}
+use Rattle.model.specs.declared.Reason.TheVariants.{BadGoalFact}
+use Rattle.model.specs.Refusals.{Verdict, refused}
 
 -- a test that two numbers differ
 pub differ : {a b : ℕ} → (a ≡ b → ⊥) → not (eqb a b) ≡ true
@@ -34,7 +32,7 @@ module _ {t : List ℕ} {symbols : ℕ} {g : List ℕ} {n k : ℕ} (l : FactsLef
     one-left : n - k ≡ suc (n - (k + 1))
     one-left = omega arith
 
-    pub fact-bad : b ≡ true → Refused 33 k ≡ facts_verdict t symbols g 0 n
+    pub fact-bad : b ≡ true → refused BadGoalFact k ≡ facts_verdict t symbols g 0 n
     unfolding facts_verdict
     fact-bad d = sym (l.same ∙ rw one-left (rw (flag e d, facts_verdict)))
 
@@ -42,11 +40,6 @@ module _ {t : List ℕ} {symbols : ℕ} {g : List ℕ} {n k : ℕ} (l : FactsLef
     unfolding facts_verdict
     fact-passed d = record { same = l.same ∙ rw one-left (rw (flag e d, facts_verdict)); few = omega arith }
 
-  pub facts-end : n ≤ k → Good ≡ facts_verdict t symbols g 0 n
+  pub facts-end : n ≤ k → ◌≡◌ {A = Verdict} (Ok tt) (facts_verdict t symbols g 0 n)
   unfolding facts_verdict
   facts-end h = let e : n - k ≡ 0 = omega arith in sym (l.same ∙ rw e)
-
-pub fact-is : (g : List ℕ) (p : ℕ) {a0 a1 a2 a3 : ℤ} → a0 ≡ i32_at g (p + 2) → a1 ≡ i32_at g (p + 6) → a2 ≡ i32_at g (p + 10) → a3 ≡ i32_at g (p + 14)
-    → ◌≡◌ {A = Fact} (record { symbol = symbol_at g (p + 1); a0 = a0; a1 = a1; a2 = a2; a3 = a3 }) (fact_at g p)
-unfolding fact_at
-fact-is g p e f h k = λ x. record { symbol = symbol_at g (p + 1); a0 = e x; a1 = f x; a2 = h x; a3 = k x }

@@ -4,7 +4,7 @@ use mathlib.Core.Path.{◌≡◌, sym, ◌∙◌}
 use mathlib.Core.List.{List}
 use Rattle.model.specs.Goal.{fact_at, goal_verdict}
 use Rattle.model.specs.declared.Fact.{Fact}
-use Rattle.model.specs.declared.Verdict.{Verdict}
+use Rattle.model.specs.Refusals.{Verdict}
 
 pub one-verdict : (t : List ℕ) (symbols : ℕ) (g : List ℕ) (r q : Verdict) → r ≡ goal_verdict t symbols g → q ≡ goal_verdict t symbols g → r ≡ q
 one-verdict t symbols g r q e d = e ∙ sym d

@@ -6,10 +6,11 @@ use mathlib.Core.Bool.{Bool, true, false}
 use mathlib.Core.List.{List, [], ◌∷◌, ◌++◌}
 use native.Mathlib.Omega.{arith}
 use lib.Dec.{eqb}
+use lib.IntN.{pos}
 use lib.ListN.{length, get_or}
 use borrow.Author.Tests.{eq-eqb}
 use Rattle.numbers.proofs.Laws.{InRange}
-use Rattle.wire.specs.Wire.{bytes4, bits_of}
+use Rattle.wire.specs.Wire.{bytes4, bits_of, i32_at}
 use Rattle.model.specs.declared.Stored.{Stored}
 use Rattle.model.specs.Reading.{read_of}
 use Rattle.model.specs.Matching.{arguments}
@@ -18,9 +19,10 @@ use Rattle.model.specs.Results.{no_counts}
 use Rattle.model.specs.Steps.{start}
 use Rattle.model.specs.Run.{Ended, run}
 use Rattle.model.specs.Goal.{goal_of}
-use Rattle.model.specs.Answer.{stored_bytes, answer_bytes, answered}
+use Rattle.model.specs.Answer.{argument, stored_bytes, answer_bytes, answered}
 use Rattle.model.specs.Calls.{RunOutput, answer_if, output_of, run_of}
 use Rattle.model.proofs.Every.{every, every-weaken, every-both}
+use Rattle.model.proofs.Lists.{of-four}
 use Rattle.model.proofs.Good.{good-goal}
 use Rattle.model.proofs.Decoded.{goal-few}
 use Rattle.model.proofs.Ranges.{AreBytes, table-ranged, goal-ranged}
@@ -36,6 +38,7 @@ use Rattle.grammar.proofs.Goals.{argument-decodes}
 -- a stored fact whose numbers have room in a record
 pub record StoredFits (s : Stored) : Type 0 where
   pub id : s.id.0 < 4294967296
+  pub four : length s.fact.arguments ≡ 4
   pub arguments : every InRange (arguments s.fact)
 
 -- a word, and what stands behind it
@@ -48,23 +51,23 @@ word-rest a p q n bs e s = same-at a (p + length (bytes4 n)) q bs (omega (arith,
 stored-decodes : (a : List ℕ) (p : ℕ) (s : Stored) → StoredFits s → Same a p (stored_bytes s) → stored_at a p ≡ s
 unfolding stored_bytes stored_at
 stored-decodes a p s f b =
+    let z = λ (k : ℕ). argument s.fact k in
     let r = f.arguments in
     let b1 = same-rest a p 17 _ b in
     let b5 = word-rest a (p + 1) (p + 5) s.id.0 _ (omega arith) b1 in
     let b6 = same-at a (p + 5 + 1) (p + 6) _ (omega arith) (same-rest a (p + 5) s.fact.symbol.0 _ b5) in
-    let b10 = word-rest a (p + 6) (p + 10) (bits_of s.fact.a0) _ (omega arith) b6 in
-    let b14 = word-rest a (p + 10) (p + 14) (bits_of s.fact.a1) _ (omega arith) b10 in
-    let b18 = word-rest a (p + 14) (p + 18) (bits_of s.fact.a2) _ (omega arith) b14 in
+    let b10 = word-rest a (p + 6) (p + 10) (bits_of (z 0)) _ (omega arith) b6 in
+    let b14 = word-rest a (p + 10) (p + 14) (bits_of (z 1)) _ (omega arith) b10 in
+    let b18 = word-rest a (p + 14) (p + 18) (bits_of (z 2)) _ (omega arith) b14 in
     let id = word-decodes a (p + 1) s.id.0 f.id (word-first a (p + 1) s.id.0 _ b1) in
     let symbol = same-first a (p + 5) s.fact.symbol.0 _ b5 in
-    let a0 = argument-decodes a (p + 6) s.fact.a0 r.0 (word-first a (p + 6) (bits_of s.fact.a0) _ b6) in
-    let a1 = argument-decodes a (p + 10) s.fact.a1 r.1.0 (word-first a (p + 10) (bits_of s.fact.a1) _ b10) in
-    let a2 = argument-decodes a (p + 14) s.fact.a2 r.1.1.0 (word-first a (p + 14) (bits_of s.fact.a2) _ b14) in
-    let a3 = argument-decodes a (p + 18) s.fact.a3 r.1.1.1.0 b18 in
-    λ i. record {
-      id = record { 0 = id i };
-      fact = record { symbol = record { 0 = symbol i }; a0 = a0 i; a1 = a1 i; a2 = a2 i; a3 = a3 i };
-    }
+    let z0 = argument-decodes a (p + 6) (z 0) r.0 (word-first a (p + 6) (bits_of (z 0)) _ b6) in
+    let z1 = argument-decodes a (p + 10) (z 1) r.1.0 (word-first a (p + 10) (bits_of (z 1)) _ b10) in
+    let z2 = argument-decodes a (p + 14) (z 2) r.1.1.0 (word-first a (p + 14) (bits_of (z 2)) _ b14) in
+    let z3 = argument-decodes a (p + 18) (z 3) r.1.1.1.0 b18 in
+    let arguments : (i32_at a (p + 6) ∷ i32_at a (p + 10) ∷ i32_at a (p + 14) ∷ i32_at a (p + 18) ∷ []) ≡ s.fact.arguments =
+    rw (z0, z1, z2, z3) (of-four s.fact.arguments (pos 0) f.four) in
+    λ i. record { id = record { 0 = id i }; fact = record { symbol = record { 0 = symbol i }; arguments = arguments i } }
 
 -- ---- an answer
 
@@ -100,7 +103,7 @@ store-fits : (t : List ℕ) (limit : ℕ) (r : Ended) → limit ≤ 20000000 →
 store-fits t limit r l k =
     let ids = rising-within 1 (suc r.result.identifiers) r.store k.rising in
     every-weaken (λ (s : Stored). ((1 ≤ s.id.0) × (s.id.0 < suc r.result.identifiers)) × StoredKept s) StoredFits
-    (λ s q. record { id = omega (arith, q.0.1, k.identifiers, k.steps); arguments = q.1.each }) r.store
+    (λ s q. record { id = omega (arith, q.0.1, k.identifiers, k.steps); four = q.1.four; arguments = q.1.each }) r.store
     (every-both (λ (s : Stored). (1 ≤ s.id.0) × (s.id.0 < suc r.result.identifiers)) StoredKept r.store ids k.facts)
 
 -- what a call that ends in 0 leaves in the buffer

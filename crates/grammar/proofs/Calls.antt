@@ -4,7 +4,7 @@ use mathlib.Core.Path.{◌≡◌}
 use mathlib.Core.List.{List, map}
 use lib.ListN.{length}
 use borrow.Author.Tests.{le-leb}
-use Rattle.model.specs.declared.Verdict.TheVariants.{Good}
+use Rattle.std.specs.Prelude.{Ok}
 use Rattle.model.specs.Limits.{greatest_limit, least_answer}
 use Rattle.model.specs.Reading.{read_of}
 use Rattle.model.specs.Results.{refusal}
@@ -31,7 +31,7 @@ encoding-short w g = (good-table (encode w) (encoding-good w g)).short
 
 module _ (w : TableTree) (g : WellFormed w) (fs : List GoalFact) (f : GoalGood w.arities fs) where
   -- the encoding of a goal that is well formed over a tree's arities is good for the tree's encoding
-  pub goal-encoding-good : goal_verdict (encode w) (read_of (encode w)).symbols (encode_goal fs) ≡ Good
+  pub goal-encoding-good : goal_verdict (encode w) (read_of (encode w)).symbols (encode_goal fs) ≡ Ok tt
   goal-encoding-good = rw (encoded-symbols w g) (goal-good (encode w) w.arities (encoded-arity w g) g.arities fs f)
 
   -- and to run it is to run the tree: no test refuses where limit and buffer are in range

@@ -11,7 +11,7 @@ use lib.Seq.{take-suc-set, append_snoc}
 use Rattle.model.specs.declared.Slot.TheVariants.{Unused}
 use Rattle.model.specs.declared.RuleShape.{RuleShape}
 use Rattle.model.specs.declared.Reading.{Reading}
-use Rattle.model.specs.declared.Verdict.TheVariants.{Good}
+use Rattle.std.specs.Prelude.{Ok}
 use Rattle.model.specs.Fields.{arity_at}
 use Rattle.model.specs.Reading.{no_shape, no_shapes, reading, read_of}
 use Rattle.model.specs.Table.{Table, guard_at, is_fact, heads_from, guards_from, items_from, rule_of, table_by, table_of}
@@ -166,10 +166,10 @@ module _ (w : TableTree) (g : WellFormed w) where
   encoded-arity k h = let e : 0 + k ≡ k = omega arith in rw e at (arity-read (encode w) w.arities 0 k symbols-at.same h)
 
   read-encoding : read_of (encode w)
-      ≡ reading Good (length w.arities) (length w.rules) (shapes_behind no_shapes 0 (2 * length w.arities) w.rules)
+      ≡ reading (Ok tt) (length w.arities) (length w.rules) (shapes_behind no_shapes 0 (2 * length w.arities) w.rules)
   unfolding read_of
   read-encoding =
-      let r = reading Good (length w.arities) (length w.rules) (shapes_behind no_shapes 0 (2 * length w.arities) w.rules) in
+      let r = reading (Ok tt) (length w.arities) (length w.rules) (shapes_behind no_shapes 0 (2 * length w.arities) w.rules) in
       (reads-symbols (encode w) r w.arities 0 0 no_shape no_shapes g.arities (omega (arith, g.few_symbols)) symbols-at
       (λ at k e d.
       let here : at ≡ 2 * length w.arities = omega arith in
@@ -187,7 +187,7 @@ module _ (w : TableTree) (g : WellFormed w) where
       ).reads (length (encode w)) (omega arith)
 
   -- A well-formed tree's encoding is a good table.
-  pub encoding-good : (read_of (encode w)).verdict ≡ Good
+  pub encoding-good : (read_of (encode w)).verdict ≡ Ok tt
   encoding-good = ap (λ (r : Reading). r.verdict) read-encoding
 
   pub encoded-symbols : (read_of (encode w)).symbols ≡ length w.arities

@@ -16,8 +16,9 @@ use Rattle.numbers.proofs.Laws.{InRange, in-range-fits, fits-in-range}
 use Rattle.wire.specs.Wire.{u32_at, i32_at, signed_of, bits_of, bytes4}
 use Rattle.wire.proofs.Laws.{bits-below, signed-bits, signed-fits, signed-low}
 use Rattle.model.specs.declared.Fact.{Fact}
-use Rattle.model.specs.declared.Verdict.{Verdict}
-use Rattle.model.specs.declared.Verdict.TheVariants.{Good, Refused}
+use Rattle.std.specs.Prelude.{Ok}
+use Rattle.model.specs.declared.Reason.TheVariants.{BadGoalFact}
+use Rattle.model.specs.Refusals.{Verdict, refused}
 use Rattle.model.specs.Fields.{arity_at}
 use Rattle.model.specs.Reading.{read_of}
 use Rattle.model.specs.Matching.{arguments}
@@ -172,7 +173,7 @@ goal-fact-decodes g p f r s =
     let x1 = at 1 (omega arith) in
     let x2 = at 2 (omega arith) in
     let x3 = at 3 (omega arith) in
-    λ i. record { symbol = numbered (named i); a0 = x0 i; a1 = x1 i; a2 = x2 i; a3 = x3 i }
+    λ i. record { symbol = numbered (named i); arguments = x0 i ∷ x1 i ∷ x2 i ∷ x3 i ∷ [] }
 
 module _ (t arities : List ℕ) (declared : (k : ℕ) → k < length arities → arity_at t k ≡ get_or arities k 0) (small : every (λ (a : ℕ). a ≤ 4) arities) where
   goal-fact-passes : (g : List ℕ) (p : ℕ) (f : GoalFact) → GoalFactGood arities f → Same g p (goal_fact_bytes f) → goal_fact_bad t (length arities) g p ≡ false
@@ -251,15 +252,15 @@ module _ (t arities : List ℕ) (declared : (k : ℕ) → k < length arities →
 
 module _ (t arities : List ℕ) (declared : (k : ℕ) → k < length arities → arity_at t k ≡ get_or arities k 0) (small : every (λ (a : ℕ). a ≤ 4) arities) where
   facts-good : (g : List ℕ) (k n : ℕ) → ((i : ℕ) → k ≤ i → i < k + n → goal_fact_bad t (length arities) g (18 * i) ≡ false)
-      → facts_verdict t (length arities) g k n ≡ Good
+      → facts_verdict t (length arities) g k n ≡ Ok tt
   unfolding facts_verdict
   facts-good g k zero h = refl
   facts-good g k (suc n) h =
       go (goal_fact_bad t (length arities) g (18 * k)) (h k (omega arith) (omega arith))
       (facts-good g (k + 1) n (λ i l m. h i (omega arith) (omega arith)))
     where
-      go : (b : Bool) → b ≡ false → facts_verdict t (length arities) g (k + 1) n ≡ Good
-          → ◌≡◌ {A = Verdict} (elim b [ true ↦ Refused 33 k | false ↦ facts_verdict t (length arities) g (k + 1) n ]) Good
+      go : (b : Bool) → b ≡ false → facts_verdict t (length arities) g (k + 1) n ≡ Ok tt
+          → ◌≡◌ {A = Verdict} (elim b [ true ↦ refused BadGoalFact k | false ↦ facts_verdict t (length arities) g (k + 1) n ]) (Ok tt)
       go true e q = no-test e
       go false e q = q
 
@@ -284,7 +285,7 @@ module _ (t arities : List ℕ) (declared : (k : ℕ) → k < length arities →
   goal-self fs = same-self (encode_goal fs)
 
   -- the encoding of a well-formed goal is good
-  pub goal-good : (fs : List GoalFact) → GoalGood arities fs → goal_verdict t (length arities) (encode_goal fs) ≡ Good
+  pub goal-good : (fs : List GoalFact) → GoalGood arities fs → goal_verdict t (length arities) (encode_goal fs) ≡ Ok tt
   unfolding goal_verdict
   goal-good fs w =
       let n = goal-count fs in
@@ -358,13 +359,13 @@ pub record EncodesGoal (arities g : List ℕ) (fs : List GoalFact) : Type 0 wher
   pub formed : GoalGood arities fs
   pub bytes : encode_goal fs ≡ g
 
-module _ (t : List ℕ) (e : (read_of t).verdict ≡ Good) where
+module _ (t : List ℕ) (e : (read_of t).verdict ≡ Ok tt) where
   -- A list of numbers is made of bytes and is a good goal for a good table exactly if it is the encoding of a goal that is well formed over its arities.
   pub goal-exactly : (g : List ℕ)
-      → (AreBytes g × (goal_verdict t (read_of t).symbols g ≡ Good)) ↔ ((fs : List GoalFact) × EncodesGoal (arities_of t) g fs)
+      → (AreBytes g × (goal_verdict t (read_of t).symbols g ≡ Ok tt)) ↔ ((fs : List GoalFact) × EncodesGoal (arities_of t) g fs)
   goal-exactly g =
       let n : (read_of t).symbols ≡ length (arities_of t) = sym (arities-count t e) in
-      let whole : goal_verdict t (read_of t).symbols g ≡ Good → WholeGoal t (length (arities_of t)) g =
+      let whole : goal_verdict t (read_of t).symbols g ≡ Ok tt → WholeGoal t (length (arities_of t)) g =
       λ q. subst (λ (k : ℕ). WholeGoal t k g) n (whole-goal t (read_of t).symbols g q) in (
         λ q. (
           goal_tree (arities_of t) g,

@@ -10,7 +10,7 @@ use lib.ListN.{length, get_or, take, length-append, length-map}
 use Rattle.model.specs.declared.Symbol.{Symbol}
 use Rattle.model.specs.declared.Expression.{Expression}
 use Rattle.model.specs.declared.RuleShape.{RuleShape}
-use Rattle.model.specs.declared.Verdict.TheVariants.{Good}
+use Rattle.std.specs.Prelude.{Ok}
 use Rattle.model.specs.Fields.{arity_at, head_bad}
 use Rattle.model.specs.Reading.{read_of}
 use Rattle.model.specs.Table.{Head, head_at, guard_at, is_fact, item_at, behind_item, heads_from, guards_from, items_from, heads_start, guards_start}
@@ -282,7 +282,7 @@ module _ (t : List ℕ) (u : AreBytes t) (arities : List ℕ) (declared : (k : �
 
 -- ---- the whole table
 
-module _ (t : List ℕ) (e : (read_of t).verdict ≡ Good) where
+module _ (t : List ℕ) (e : (read_of t).verdict ≡ Ok tt) where
   good : GoodTable t
   good = good-table t e
 
@@ -313,7 +313,7 @@ module _ (t : List ℕ) (e : (read_of t).verdict ≡ Good) where
   pub arities-small : every (λ (a : ℕ). a ≤ 4) (arities_of t)
   arities-small = arities-written.good
 
-module _ (t : List ℕ) (u : AreBytes t) (e : (read_of t).verdict ≡ Good) where
+module _ (t : List ℕ) (u : AreBytes t) (e : (read_of t).verdict ≡ Ok tt) where
   table-written : Written rule_bytes (RuleGood (arities_of t)) t (2 * (read_of t).symbols) (whole t e).last (tree_of t).rules
   unfolding tree_of table_of table_by
   table-written =
@@ -353,7 +353,7 @@ pub record Encodes (t : List ℕ) (w : TableTree) : Type 0 where
   pub bytes : encode w ≡ t
 
 -- A good table is the encoding of a well-formed tree: of the one that is read from it.
-pub good-encodes : (t : List ℕ) → AreBytes t → (read_of t).verdict ≡ Good → Encodes t (tree_of t)
+pub good-encodes : (t : List ℕ) → AreBytes t → (read_of t).verdict ≡ Ok tt → Encodes t (tree_of t)
 good-encodes t u e = record { formed = tree-formed t u e; bytes = tree-bytes t u e }
 
 -- There is no other.
@@ -361,9 +361,9 @@ pub only-tree : (t : List ℕ) (w : TableTree) → Encodes t w → w ≡ tree_of
 only-tree t w q = sym (tree-back w q.formed) ∙ ap tree_of q.bytes
 
 -- A list of numbers is made of bytes and is a good table exactly if it is the encoding of a well-formed tree. (Of one: only-tree.)
-pub good-exactly : (t : List ℕ) → (AreBytes t × ((read_of t).verdict ≡ Good)) ↔ ((w : TableTree) × Encodes t w)
+pub good-exactly : (t : List ℕ) → (AreBytes t × ((read_of t).verdict ≡ Ok tt)) ↔ ((w : TableTree) × Encodes t w)
 good-exactly t = (
   λ q. (tree_of t, good-encodes t q.0 q.1),
-  λ q. subst (λ (b : List ℕ). AreBytes b × ((read_of b).verdict ≡ Good)) q.1.bytes
+  λ q. subst (λ (b : List ℕ). AreBytes b × ((read_of b).verdict ≡ Ok tt)) q.1.bytes
       (encoding-bytes q.0 q.1.formed, encoding-good q.0 q.1.formed),
 )

@@ -13,13 +13,13 @@ use Rattle.model.specs.declared.Kind.{Kind}
 use Rattle.model.specs.declared.Kind.TheVariants.{NextSymbol, NextRule, KeptHead, RemovedHead, Comparison, BodyFact, BodyFail, EndOfTable}
 use Rattle.model.specs.declared.RuleShape.{RuleShape}
 use Rattle.model.specs.declared.Scan.{Scan}
-use Rattle.model.specs.declared.RecordStep.TheVariants.{Next, Done}
+use Rattle.std.specs.Prelude.{Some, Ok}
+use Rattle.model.specs.declared.Behind.TheVariants.{Next, Done}
 use Rattle.model.specs.declared.Reading.{Reading}
-use Rattle.model.specs.declared.Verdict.TheVariants.{Good}
 use Rattle.model.specs.Records.{kind_of, size_of, earliest_of, latest_of, out_of_order, headless, too_many}
 use Rattle.model.specs.Fields.{arity_at, head_bad, bad_field}
 use Rattle.model.specs.Variables.{strange, strange_guard, strange_fact}
-use Rattle.model.specs.Reading.{reading, behind, fields_of, ordered_of, tested_of, record_of, noted, ended, go_on, read_from}
+use Rattle.model.specs.Reading.{reading, behind, fields_of, ordered_of, tested_of, known_of, record_of, noted, ended, go_on, read_from}
 use Rattle.model.specs.Table.{Head, head_at, heads_from, guard_at}
 use Rattle.model.proofs.Every.{every, every-append}
 use Rattle.model.proofs.Lists.{or-both}
@@ -71,7 +71,7 @@ pub record Reads (t : List ℕ) (s : Scan) (shapes : List RuleShape) (r : Readin
 
 -- the tests that a record of kind k passes
 pub record Passes (t : List ℕ) (s : Scan) (k : Kind) : Type 0 where
-  pub kind : kind_of (get_or t s.at 0) ≡ k
+  pub kind : kind_of (get_or t s.at 0) ≡ Some k
   pub some : 1 ≤ size_of k
   pub lies : s.at + size_of k ≤ length t
   pub early : earliest_of k ≤ s.stage
@@ -81,13 +81,12 @@ pub record Passes (t : List ℕ) (s : Scan) (k : Kind) : Type 0 where
   pub fields : bad_field t s k ≡ false
   pub usual : strange t s k ≡ false
 
-record-passes : (t : List ℕ) (s : Scan) (k : Kind) → Passes t s k → record_of t s ≡ behind s k
-unfolding record_of tested_of ordered_of fields_of out_of_order
+record-passes : (t : List ℕ) (s : Scan) (k : Kind) → Passes t s k → record_of t s ≡ Ok (behind s k)
+unfolding record_of known_of tested_of ordered_of fields_of out_of_order
 record-passes t s k p =
     rw (
       lt-leb (length t) s.at (omega (arith, p.some, p.lies)),
       p.kind,
-      ne_eqb (size_of k) 0 (λ (z : size_of k ≡ 0). omega (arith, p.some)),
       le-ltb (length t) (s.at + size_of k) p.lies,
       le-ltb s.stage (earliest_of k) p.early,
       le-ltb (latest_of k) s.stage p.late,
@@ -118,7 +117,7 @@ noted-again shapes s k x e = noted-first (set shapes k x) s k e ∙ set-set shap
 -- ---- symbols
 
 -- the kind of a record that begins with its byte
-kind-of : (t : List ℕ) (p b : ℕ) (bs : List ℕ) (k : Kind) → kind_of b ≡ k → At t p (b ∷ bs) → kind_of (get_or t p 0) ≡ k
+kind-of : (t : List ℕ) (p b : ℕ) (bs : List ℕ) (k : Kind) → kind_of b ≡ Some k → At t p (b ∷ bs) → kind_of (get_or t p 0) ≡ Some k
 kind-of t p b bs k e a = ap kind_of (same-first t p b bs a.same) ∙ e
 
 module _ (t : List ℕ) (r : Reading) where
@@ -169,7 +168,7 @@ reads-part t r m k shapes at stage at' stage' x y kind p b l q =
 
 -- what the definition says of a kind of head, where `kept` of n heads are kept
 record HeadKind (byte : ℕ) (kind : Kind) (last : ℕ) (kept : ℕ → ℕ) : Type 0 where
-  named : kind_of byte ≡ kind
+  named : kind_of byte ≡ Some kind
   size : size_of kind ≡ 22
   early : earliest_of kind ≡ 1
   late : latest_of kind ≡ last
@@ -488,16 +487,16 @@ module _ (t arities : List ℕ) (declared : (k : ℕ) → k < length arities →
 
 -- ---- the end
 
-ended-good : (t : List ℕ) (p : ℕ) → p ≡ length t → ended t p ≡ Good
+ended-good : (t : List ℕ) (p : ℕ) → p ≡ length t → ended t p ≡ Ok tt
 unfolding ended
 ended-good t p e = rw (le-ltb p (length t) (omega arith))
 
 pub reads-end : (t : List ℕ) (at stage m k : ℕ) (shape : RuleShape) (shapes : List RuleShape) → At t at (8 ∷ []) → at + 1 ≡ length t → stage ≤ 5
-    → eqb stage 1 ≡ false → Reads t (scan_of at stage m k shape) shapes (reading Good m k shapes)
+    → eqb stage 1 ≡ false → Reads t (scan_of at stage m k shape) shapes (reading (Ok tt) m k shapes)
 unfolding read_from go_on bad_field strange kind_of behind
 reads-end t at stage m k shape shapes a e l one = record { reads = go }
   where
-    done : record_of t (scan_of at stage m k shape) ≡ Done (at + 1)
+    done : record_of t (scan_of at stage m k shape) ≡ Ok (Done (at + 1))
     done = record-passes t (scan_of at stage m k shape) EndOfTable (record {
       kind = kind-of t at 8 [] EndOfTable refl a;
       some = omega arith;
@@ -510,6 +509,6 @@ reads-end t at stage m k shape shapes a e l one = record { reads = go }
       usual = refl;
     })
 
-    go : (n : ℕ) → length t ≤ n + at → read_from n t (scan_of at stage m k shape) shapes ≡ reading Good m k shapes
+    go : (n : ℕ) → length t ≤ n + at → read_from n t (scan_of at stage m k shape) shapes ≡ reading (Ok tt) m k shapes
     go zero h = absurd (omega arith)
     go (suc n) h = rw (done, ended-good t (at + 1) e)

@@ -8,7 +8,7 @@ use Rattle.wire.specs.Wire.{u32_at, i32_at}
 unfoldable pub stored_at : List ℕ → ℕ → Stored
 stored_at a p = record {
   id = record { 0 = u32_at a (p + 1) };
-  fact = record { symbol = symbol_at a (p + 5); a0 = i32_at a (p + 6); a1 = i32_at a (p + 10); a2 = i32_at a (p + 14); a3 = i32_at a (p + 18) };
+  fact = record { symbol = symbol_at a (p + 5); arguments = i32_at a (p + 6) ∷ i32_at a (p + 10) ∷ i32_at a (p + 14) ∷ i32_at a (p + 18) ∷ [] };
 }
 
 -- n records of 22 bytes, from p on, as long as they are of kind 17

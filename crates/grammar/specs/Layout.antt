@@ -62,10 +62,7 @@ laid w = record { symbols = length w.arities; rules = map laid_rule w.rules }
 unfoldable pub laid_fact : GoalFact → Fact
 laid_fact f = record {
   symbol = numbered f.symbol;
-  a0 = get_or f.arguments 0 (pos 0);
-  a1 = get_or f.arguments 1 (pos 0);
-  a2 = get_or f.arguments 2 (pos 0);
-  a3 = get_or f.arguments 3 (pos 0);
+  arguments = get_or f.arguments 0 (pos 0) ∷ get_or f.arguments 1 (pos 0) ∷ get_or f.arguments 2 (pos 0) ∷ get_or f.arguments 3 (pos 0) ∷ [];
 }
 
 -- ---- and back: what is used of each part. No good table has what is Bad

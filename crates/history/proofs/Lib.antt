@@ -1,1 +1,1 @@
-pub mod Remembered
+pub mod Among

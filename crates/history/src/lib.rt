@@ -1,110 +1,49 @@
-// The history: entries of plain numbers, the rule and the identifiers in head order, so that it can be lent.
+// The history: the firings noted. It is lent as a slice of exactly these.
 #![tactic(auto)]
 
-ghost use Rattle.std.specs.Prelude.{◌≡◌, ◌+◌, ◌≤◌, length, drop, replicate};
-ghost use Rattle.model.specs.Limits.{history_room, most_heads};
-ghost use Rattle.model.specs.Search.{fired_of, same_fired, in_history};
-ghost use Rattle.model.specs.Steps.{names};
-ghost use Rattle.chosen.specs.Views.{ids_of, Held};
-ghost use Rattle.history.specs.Views.{fired_at, past_of, Pruned};
+ghost use Rattle.std.specs.Prelude.{◌≡◌, ◌≤◌, length, take, get_or};
+ghost use Rattle.model.specs.Search.{nobody, fired_of, same_fired, in_history};
+ghost use Rattle.model.specs.Steps.{names, pruned};
 
-use model::{FactId, History, HistoryEntry, Rule, RuleNumber};
+use model::{FactId, Fired, RuleNumber};
 
-// A fresh history: empty entries alone.
-pub fn fresh() -> [HistoryEntry; History::CAPACITY]
-    ensures { result ≡ replicate history_room (replicate (1 + most_heads) 0) }
+// The identifier at a place, or nobody's where none is chosen.
+fn nth(ids: &[FactId], k: usize) -> FactId
+    ensures { result ≡ get_or ids.now k nobody }
 {
-    let none = [0u32; 1 + Rule::HEADS];
-    [none; History::CAPACITY]
+    ids.get(k).copied().unwrap_or(FactId(0))
 }
 
-pub fn entry(rule: RuleNumber, ids: &[u32; Rule::HEADS], n: usize) -> HistoryEntry
-    requires { Held ids.now n }
-    ensures { fired_at result ≡ fired_of rule (ids_of n ids.now) }
+// A firing's entry: the rule, and the identifiers in head order.
+#[tactic(auto, unfolding(model::specs::Search::fired_of, model::specs::Search::four))]
+pub fn entry(rule: RuleNumber, ids: &[FactId]) -> Fired
+    ensures { result ≡ fired_of rule ids.now }
 {
-    let first = rule.0 as u32;
-    let w = chosen::nth(ids, n, 0);
-    let x = chosen::nth(ids, n, 1);
-    let y = chosen::nth(ids, n, 2);
-    let z = chosen::nth(ids, n, 3);
-    [first, w, x, y, z]
+    Fired {
+        rule,
+        ids: [nth(ids, 0), nth(ids, 1), nth(ids, 2), nth(ids, 3)],
+    }
 }
 
-pub fn same_entry(d: HistoryEntry, e: HistoryEntry) -> bool
-    ensures { result ≡ same_fired (fired_at d) (fired_at e) }
+// Is a firing noted?
+pub fn recorded(past: &[Fired], fired: Fired) -> bool
+    ensures { result ≡ in_history fired past.now }
 {
-    if d[0] != e[0] {
-        return false;
-    }
-    if d[1] != e[1] {
-        return false;
-    }
-    if d[2] != e[2] {
-        return false;
-    }
-    if d[3] != e[3] {
-        return false;
-    }
-    d[4] == e[4]
+    past.contains(&fired)
 }
 
-// Is an entry among the first `noted`?
-pub fn recorded(past: &[HistoryEntry; History::CAPACITY], noted: usize, e: HistoryEntry) -> bool
-    requires { (noted ≤ history_room) × (length past.now ≡ history_room) }
-    ensures { result ≡ in_history (fired_at e) (past_of noted past.now) }
+// Does an entry name one of the facts that are gone?
+pub fn names(fired: &Fired, gone: &[FactId]) -> bool
+    ensures { result ≡ names fired.now.ids gone.now }
 {
-    let mut i: usize = 0;
-    while i < noted {
-        let d = past[i];
-        if same_entry(d, e) {
-            return true;
-        }
-        i += 1;
-    }
-    false
+    fired.ids.iter().any(|id| chosen::is_among(*id, gone))
 }
 
-// Does an entry name one of the facts at from..to, which are gone?
-pub fn names(e: HistoryEntry, ids: &[u32; Rule::HEADS], from: usize, to: usize) -> bool
-    requires { Held ids.now to }
-    ensures { result ≡ names (fired_at e).ids (drop from (ids_of to ids.now)) }
+// The entries that name a fact that is gone are left out, in place. Gives how many are left.
+pub fn prune(past: &mut [Fired], gone: &[FactId]) -> usize
+    ensures left { take result past.new ≡ pruned gone.now past.old }
+    ensures fewer { result ≤ length past.old }
+    ensures long { length past.new ≡ length past.old }
 {
-    let w = e[1];
-    if chosen::is_among(FactId(w), ids, from, to) {
-        return true;
-    }
-    let x = e[2];
-    if chosen::is_among(FactId(x), ids, from, to) {
-        return true;
-    }
-    let y = e[3];
-    if chosen::is_among(FactId(y), ids, from, to) {
-        return true;
-    }
-    let z = e[4];
-    chosen::is_among(FactId(z), ids, from, to)
-}
-
-// The entries that name a fact that is gone are left out, in place.
-pub fn prune(
-    past: &mut [HistoryEntry; History::CAPACITY],
-    noted: usize,
-    ids: &[u32; Rule::HEADS],
-    from: usize,
-    to: usize,
-) -> usize
-    requires { (noted ≤ history_room) × ((length past.old ≡ history_room) × Held ids.now to) }
-    ensures { Pruned (drop from (ids_of to ids.now)) noted past.old past.new result }
-{
-    let mut kept: usize = 0;
-    let mut i: usize = 0;
-    while i < noted {
-        let e = past[i];
-        i += 1;
-        if names(e, ids, from, to) {} else {
-            past[kept] = e;
-            kept += 1;
-        }
-    }
-    kept
+    chosen::retain(past, |fired| !names(fired, gone))
 }

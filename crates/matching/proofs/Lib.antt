@@ -1,2 +1,3 @@
-pub mod Binds
+pub mod Slots
 pub mod Probed
+pub mod Passing

@@ -1,110 +1,62 @@
-// Matching a head with a fact. The binding is two arrays that the caller lends; after a match that fails they mean nothing.
-ghost use Rattle.std.specs.Prelude.{◌≡◌, ◌+◌, ◌≤◌, ◌<◌, length};
+// Matching a head with a fact. After a match that fails the binding means nothing.
+// Kept: true or false beside the lent binding; as an Option<Binding> 128 bytes would go by value at each slot, on the way of every try.
+ghost use Rattle.std.specs.Prelude.{◌≡◌, ◌+◌, ◌≤◌, length};
 ghost use Rattle.model.specs.declared.Kind.TheVariants.{KeptHead};
-ghost use Rattle.model.specs.Limits.{store_room};
 ghost use Rattle.model.specs.Records.{size_of};
-ghost use Rattle.model.specs.Matching.{match_variable, match_slot, match_head};
+ghost use Rattle.model.specs.Matching.{bound_if, match_variable, match_slot, match_head};
 ghost use Rattle.model.specs.Slots.{slot_at};
 ghost use Rattle.model.specs.Table.{head_at};
-ghost use Rattle.numbers.specs.Numbers.{equal};
-ghost use Rattle.values.specs.Views.{binding_of};
-ghost use Rattle.matching.specs.Views.{bound_as};
-ghost use Rattle.store.specs.Views.{row_fact};
 
-use model::{Rule, Store};
+use model::{Binding, Fact, Rule};
 use records::geometry::{HeadBytes, SlotBytes};
 
-pub fn same(a: i32, b: i32) -> bool
-    ensures { result ≡ equal a b }
-{
-    a == b
-}
-
 // A variable that is bound must have this value; one that is not gets it. No good table has one above 15.
-pub fn match_variable(
-    v: u8,
-    a: i32,
-    values: &mut [i32; Rule::VARIABLES],
-    bound: &mut [bool; Rule::VARIABLES],
-) -> bool
-    ensures { bound_as result values.new bound.new
-        ≡ match_variable (binding_of values.old bound.old) v a }
+#[tactic(auto, unfolding(model::specs::Matching::match_variable, model::specs::Matching::with_variable))]
+pub fn match_variable(v: u8, a: i32, binding: &mut Binding) -> bool
+    ensures { bound_if result binding.new ≡ match_variable binding.old v a }
 {
     let at = v as usize;
     if Rule::VARIABLES <= at {
         return false;
     }
-    if bound[at] {
-        return same(values[at], a);
+    match binding.values[at] {
+        Some(value) => value == a,
+        None => {
+            binding.values[at] = Some(a);
+            true
+        }
     }
-    values[at] = a;
-    bound[at] = true;
-    true
 }
 
 // The slot at p with an argument.
-fn match_slot(
-    table: &[u8],
-    p: usize,
-    a: i32,
-    values: &mut [i32; Rule::VARIABLES],
-    bound: &mut [bool; Rule::VARIABLES],
-) -> bool
+// Kept: reads the slot's bytes as `slots::slot_at` does; to make its enum first took a tenth of the time of a short run.
+#[tactic(auto, unfolding(model::specs::Matching::match_slot, model::specs::Slots::slot_at, model::specs::Slots::slot_by))]
+fn match_slot(table: &[u8], p: usize, a: i32, binding: &mut Binding) -> bool
     requires { p + 5 ≤ length table.now }
-    ensures { bound_as result values.new bound.new
-        ≡ match_slot (slot_at table.now p) a (binding_of values.old bound.old) }
+    ensures { bound_if result binding.new ≡ match_slot (slot_at table.now p) a binding.old }
 {
-    let tag = table[p];
     let value = wire::u32_within(table, p + SlotBytes::VALUE);
-    if tag == 2 {
-        if (value as usize) < Rule::VARIABLES {
-            return match_variable(value as u8, a, values, bound);
-        }
-        return false;
+    match table[p] {
+        0 => value == 0,
+        1 => wire::signed(value) == a,
+        2 if (value as usize) < Rule::VARIABLES => match_variable(value as u8, a, binding),
+        _ => false,
     }
-    if tag == 1 {
-        return same(wire::signed(value), a);
-    }
-    if tag == 0 {
-        if value == 0 {
-            return true;
-        }
-        return false;
-    }
-    false
 }
 
-// The head at p with the fact of row i.
-pub fn match_head(
-    table: &[u8],
-    p: usize,
-    symbols: &[u8; Store::CAPACITY],
-    args: &[i32; 4 * Store::CAPACITY],
-    i: usize,
-    values: &mut [i32; Rule::VARIABLES],
-    bound: &mut [bool; Rule::VARIABLES],
-) -> bool
-    requires { (p + size_of KeptHead ≤ length table.now) × (i < store_room) }
-    ensures { bound_as result values.new bound.new
-        ≡ match_head (head_at table.now p) (row_fact symbols.now args.now i)
-        (binding_of values.old bound.old) }
+// The head at p with a fact.
+pub fn match_head(table: &[u8], p: usize, fact: &Fact, binding: &mut Binding) -> bool
+    requires { p + size_of KeptHead ≤ length table.now }
+    ensures { bound_if result binding.new ≡ match_head (head_at table.now p) fact.now binding.old }
 {
-    if table[p + HeadBytes::SYMBOL] != symbols[i] {
+    if table[p + HeadBytes::SYMBOL] != fact.symbol.0 {
         return false;
     }
-    let at = 4 * i;
-    let a0 = args[at];
-    let a1 = args[at + 1];
-    let a2 = args[at + 2];
-    let a3 = args[at + 3];
-    if !match_slot(table, p + HeadBytes::SLOT_0, a0, values, bound) {
-        return false;
+    for k in 0..Fact::ARGUMENTS {
+        let slot = p + HeadBytes::SLOT_0 + SlotBytes::LEN * k;
+        if !match_slot(table, slot, fact.arguments[k], binding) {
+            return false;
+        }
     }
-    if !match_slot(table, p + HeadBytes::SLOT_1, a1, values, bound) {
-        return false;
-    }
-    if !match_slot(table, p + HeadBytes::SLOT_2, a2, values, bound) {
-        return false;
-    }
-    match_slot(table, p + HeadBytes::SLOT_3, a3, values, bound)
+    true
 }

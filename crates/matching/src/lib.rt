@@ -1,24 +1,25 @@
-// A head against the rows of the store: what a row must show before it is tried, and the match itself.
+// A head against a stored fact: what a fact must show before it is tried, and the match itself.
 #![tactic(auto)]
+
+ghost use Rattle.std.specs.Prelude.{◌<◌};
 
 use model::Symbol;
 
 pub mod heads;
 pub mod probing;
 
-// What a row must show before it is tried for a head: its symbol, and one argument where the head has a constant or a variable
+// What a fact must show before it is tried for a head: its symbol, and one argument where the head has a constant or a variable
 // that is bound.
 #[derive(Clone, Copy)]
 pub struct Probe {
     pub symbol: Symbol,
-    pub settled: bool,
-    pub place: usize,
-    pub value: i32,
+    pub asked: Option<Asked>,
 }
 
-// The value that an argument must have to match a slot, where that is known before the match.
+// The value that the argument at a place must have.
 #[derive(Clone, Copy)]
-pub enum Settled {
-    To(i32),
-    Open,
+pub struct Asked {
+    pub place: usize,
+    pub value: i32,
+    ghost within: { place < 4 },
 }

@@ -1,100 +1,70 @@
-// What settles most rows before anything is copied for a match.
-ghost use Rattle.std.specs.Prelude.{◌≡◌, ◌+◌, ◌≤◌, ◌<◌, length};
+// What settles most facts before anything is copied for a match.
+ghost use Rattle.std.specs.Prelude.{◌≡◌, ◌+◌, ◌≤◌, length};
 ghost use Rattle.model.specs.declared.Kind.TheVariants.{KeptHead};
-ghost use Rattle.model.specs.Limits.{store_room};
 ghost use Rattle.model.specs.Records.{size_of};
 ghost use Rattle.model.specs.Slots.{slot_at};
 ghost use Rattle.model.specs.Table.{head_at};
-ghost use Rattle.values.specs.Views.{binding_of};
-ghost use Rattle.matching.specs.Views.{settled_by, settled_of, passes_of, Probing};
+ghost use Rattle.matching.specs.Views.{settled_of, passes_of, from_passing, Probing};
 
-use crate::{Probe, Settled};
-use model::{Rule, Store, Symbol};
-use numbers::Value;
+use crate::{Asked, Probe};
+use model::{Binding, Fact, Stored, Symbol};
 use records::geometry::{HeadBytes, SlotBytes};
 
-// A value settles what an argument must be.
-fn settled_by(value: Value) -> Settled
-    ensures { result ≡ settled_by value }
-{
-    match value {
-        Value::Number(z) => Settled::To(z),
-        Value::Undefined => Settled::Open,
-    }
-}
-
 // The value that an argument must have at the slot at p, where that is known before the match.
-fn settled(
-    table: &[u8],
-    p: usize,
-    values: &[i32; Rule::VARIABLES],
-    bound: &[bool; Rule::VARIABLES],
-) -> Settled
+#[tactic(auto, unfolding(crate::specs::Views::settled_of, model::specs::Guards::slot_value, model::specs::Slots::slot_at, model::specs::Slots::slot_by))]
+fn settled(table: &[u8], p: usize, binding: &Binding) -> Option<i32>
     requires { p + 5 ≤ length table.now }
-    ensures { result ≡ settled_of (binding_of values.now bound.now) (slot_at table.now p) }
+    ensures { result ≡ settled_of binding.now (slot_at table.now p) }
 {
     if table[p] == 0 {
-        return Settled::Open;
+        return None;
     }
-    settled_by(values::expressions::slot_value_at(table, p, values, bound))
+    values::expressions::slot_value_at(table, p, binding)
 }
 
 // The probe for the head at p: its first slot that is settled.
-pub fn probe(
-    table: &[u8],
-    p: usize,
-    values: &[i32; Rule::VARIABLES],
-    bound: &[bool; Rule::VARIABLES],
-) -> Probe
+pub fn probe(table: &[u8], p: usize, binding: &Binding) -> Probe
     requires { p + size_of KeptHead ≤ length table.now }
-    ensures { Probing (head_at table.now p) (binding_of values.now bound.now) result }
+    ensures { Probing (head_at table.now p) binding.now result }
 {
-    let symbol = table[p + HeadBytes::SYMBOL];
-    let mut place: usize = 0;
-    while place < 4 {
-        let here = place;
-        place += 1;
-        match settled(
-            table,
-            p + HeadBytes::SLOT_0 + SlotBytes::LEN * here,
-            values,
-            bound,
-        ) {
-            Settled::To(z) => {
-                return Probe {
-                    symbol: Symbol(symbol),
-                    settled: true,
-                    place: here,
-                    value: z,
-                };
-            }
-            Settled::Open => {}
+    let symbol = Symbol(table[p + HeadBytes::SYMBOL]);
+    for place in 0..Fact::ARGUMENTS {
+        let slot = p + HeadBytes::SLOT_0 + SlotBytes::LEN * place;
+        if let Some(value) = settled(table, slot, binding) {
+            return Probe {
+                symbol,
+                asked: Some(Asked { place, value }),
+            };
         }
     }
     Probe {
-        symbol: Symbol(symbol),
-        settled: false,
-        place: 0,
-        value: 0,
+        symbol,
+        asked: None,
     }
 }
 
-// Whether row i shows what the probe asks.
-pub fn passes(
-    probe: Probe,
-    symbols: &[u8; Store::CAPACITY],
-    args: &[i32; 4 * Store::CAPACITY],
-    i: usize,
-) -> bool
-    requires { (i < store_room) × (probe.place < 4) }
-    ensures { result ≡ passes_of probe symbols.now args.now i }
+// Whether a fact shows what the probe asks.
+#[tactic(auto, unfolding(crate::specs::Views::passes_of))]
+pub fn passes(probe: &Probe, fact: &Fact) -> bool
+    ensures { result ≡ passes_of probe.now fact.now }
 {
-    let symbol = probe.symbol;
-    if symbol.0 != symbols[i] {
+    if probe.symbol != fact.symbol {
         return false;
     }
-    if probe.settled {
-        return crate::heads::same(probe.value, args[4 * i + probe.place]);
+    match probe.asked {
+        Some(asked) => asked.value == fact.arguments[asked.place],
+        None => true,
     }
-    true
+}
+
+// What is left of the facts from the first one on that passes. A search goes from one to the next by this short loop of its own.
+pub fn from_passing<'a>(facts: &'a [Stored], probe: &Probe) -> &'a [Stored]
+    ensures { result.now ≡ from_passing probe.now facts.now }
+{
+    for i in 0..facts.len() {
+        if passes(probe, &facts[i].fact) {
+            return &facts[i..];
+        }
+    }
+    &[]
 }

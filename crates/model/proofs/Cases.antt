@@ -11,7 +11,7 @@ use Rattle.model.specs.Calls.{RunOutput, run_of}
 use Rattle.model.proofs.Build.{Bytes, ◌then◌, Term, var, num, only, op, symbol, rule, kept, removed, test, adds, failing, finish, fact, stored}
 use Rattle.model.proofs.Build.{times, zeros}
 use Rattle.model.specs.Variables.{is_variable, head_has, in_heads, strange_slot, strange_expression, strange_guard, strange_fact, strange}
-use Rattle.model.specs.Reading.{behind, fields_of, ordered_of, tested_of, record_of, noted, ended, go_on, read_from, read_of}
+use Rattle.model.specs.Reading.{behind, fields_of, ordered_of, tested_of, known_of, record_of, noted, ended, go_on, read_from, read_of}
 use Rattle.model.specs.Goal.{fact_at, facts_from, later_bad, later_places_bad, goal_fact_bad, facts_verdict, goal_verdict, goal_of}
 use Rattle.model.specs.declared.Weighing.{Weighing}
 use Rattle.model.specs.Weights.{goal_weight, heads_weight, body_weight, body_facts, most_places, most_facts, step_bound, first_zero, first_heavy}
@@ -30,7 +30,7 @@ use Rattle.model.specs.Steps.{is_removed, fired, step_with}
 use Rattle.model.specs.Fields.{place_bad, arity_at, places_bad, top_of, expression_bad, arguments_bad, head_bad, guard_bad, body_fact_bad, bad_field}
 use Rattle.model.specs.Slots.{slot_by, slot_at, expression_at}
 use Rattle.wire.specs.Wire.{u32_at, signed_of, bits_of, i32_at, bytes4}
-use Rattle.numbers.specs.Numbers.{in_range, exact, unless_zero, sum_of, difference_of, product_of, floor_z, mod_z, quotient_of, remainder_of, operate}
+use Rattle.numbers.specs.Numbers.{in_range, exact, unless_zero, floor_z, mod_z, quotient_of, remainder_of, operate}
 use Rattle.numbers.specs.Numbers.{on_numbers}
 use Rattle.numbers.specs.Numbers.{evaluate, holds, judge, compare}
 
@@ -326,7 +326,7 @@ all_agree (c ∷ cs) = agrees c && all_agree cs
 pub worked_runs : T (all_agree cases)
 unfolding table_a mu copies pairs divides counts negative two_b minus triangles partners fours undone ratios works repeats four_tests fails_first renames
     halves grows notes bare doubled most cases same numbers_of ran weighed_as agrees all_agree is_variable head_has in_heads strange_slot strange_expression
-    strange_guard strange_fact strange behind fields_of ordered_of tested_of record_of noted ended go_on read_from read_of fact_at facts_from later_bad
+    strange_guard strange_fact strange behind fields_of ordered_of tested_of known_of record_of noted ended go_on read_from read_of fact_at facts_from later_bad
     later_places_bad goal_fact_bad facts_verdict goal_verdict goal_of verdict_result check_of output_of run_of weighed weigh_of goal_weight heads_weight
     body_weight
     body_facts most_places most_facts step_bound first_zero first_heavy is_among four fired_of same_ids same_fired in_history first_of stored_fact may_stand
@@ -335,8 +335,7 @@ unfolding table_a mu copies pairs divides counts negative two_b minus triangles 
     behind_item heads_from guards_from items_from rule_of table_by table_of rule_at places_in places_from places stored_bytes answer_bytes answered ended_as
     run_with run with_variable match_variable match_slot and_slot match_slots match_head kind_of out_of_order start argument_values item_entry body_entries keep
     gone without names pruned activated advanced dropped is_removed fired step_with place_bad arity_at places_bad top_of expression_bad arguments_bad head_bad
-    guard_bad body_fact_bad bad_field slot_by slot_at expression_at u32_at signed_of bits_of i32_at bytes4 in_range exact unless_zero sum_of difference_of
-    product_of
+    guard_bad body_fact_bad bad_field slot_by slot_at expression_at u32_at signed_of bits_of i32_at bytes4 in_range exact unless_zero
     floor_z mod_z quotient_of remainder_of operate on_numbers evaluate holds judge compare
 worked_runs = tt
 

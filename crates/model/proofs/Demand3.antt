@@ -7,16 +7,16 @@ use native.Mathlib.Omega.{arith}
 use native.Mathlib.Decide.{dec_lt}
 use mathlib.Core.Path.{◌≡◌, refl, sym, ap, subst}
 use mathlib.Core.Bool.{Bool, true, false}
-use mathlib.Core.Option.{Option, none, some}
 use mathlib.Core.List.{List, [], ◌∷◌}
 use lib.Dec.{eqb, ltb}
 use lib.ListN.{length, get_or}
 use borrow.Author.Tests.{eqb-true, ltb-true}
+use Rattle.std.specs.Prelude.{Option, Some, None, Ok, Err}
 use Rattle.model.specs.declared.Symbol.{Symbol}
+use Rattle.model.specs.declared.RuleNumber.{RuleNumber}
 use Rattle.model.specs.declared.Fact.{Fact}
 use Rattle.model.specs.declared.HeadPlace.{HeadPlace}
-use Rattle.model.specs.declared.Verdict.{Verdict}
-use Rattle.model.specs.declared.Verdict.TheVariants.{Good, Refused}
+use Rattle.model.specs.Refusals.{Verdict, number_of}
 use Rattle.model.specs.declared.CallResult.{CallResult}
 use Rattle.model.specs.declared.Weighing.{Weighing}
 use Rattle.model.specs.Limits.{store_room, most_items}
@@ -71,30 +71,30 @@ few-places t d s = go (places t s) refl (places-in t s) (places-have t s (λ (r 
 
 -- ---- the tests 41 and 42, turned into facts
 
-nonzero : (k : ℕ) (ws : List ℕ) → first_zero k ws ≡ none → (i : ℕ) → 1 ≤ get_or ws i 1
+nonzero : (k : ℕ) (ws : List ℕ) → first_zero k ws ≡ None → (i : ℕ) → 1 ≤ get_or ws i 1
 unfolding first_zero
 nonzero k [] e i = omega arith
-nonzero k (zero ∷ ws) e i = absurd (let z : ◌≡◌ {A = ℕ} 0 1 = cc in omega arith)
+nonzero k (zero ∷ ws) e i = absurd cc
 nonzero k (suc n ∷ ws) e zero = omega arith
 nonzero k (suc n ∷ ws) e (suc i) = nonzero (suc k) ws e i
 
-pub all-lose : (w : Symbol → ℕ) (k : ℕ) (rs : List Rule) → first_heavy w k rs ≡ none → every (Loses w) rs
+pub all-lose : (w : Symbol → ℕ) (k : ℕ) (rs : List Rule) → first_heavy w k rs ≡ None → every (Loses w) rs
 unfolding first_heavy
 all-lose w k [] e = tt
 all-lose w k (r ∷ rs) e = go (ltb (body_weight w r.body) (heads_weight w r.removed)) refl e (all-lose w (suc k) rs)
   where
     go : (x : Bool) → ltb (body_weight w r.body) (heads_weight w r.removed) ≡ x
-        → ◌≡◌ {A = Option ℕ} (elim x [ true ↦ first_heavy w (suc k) rs | false ↦ some k ]) none
-        → (first_heavy w (suc k) rs ≡ none → every (Loses w) rs) → Loses w r × every (Loses w) rs
+        → ◌≡◌ {A = Option RuleNumber} (elim x [ true ↦ first_heavy w (suc k) rs | false ↦ Some (record { 0 = k }) ]) None
+        → (first_heavy w (suc k) rs ≡ None → every (Loses w) rs) → Loses w r × every (Loses w) rs
     go true q e ih = (ltb-true (body_weight w r.body) (heads_weight w r.removed) q, ih e)
-    go false q e ih = absurd (let z : ◌≡◌ {A = ℕ} 0 1 = cc in omega arith)
+    go false q e ih = absurd cc
 
 all-short : (rs : List Rule) (B : ℕ) → most_facts rs ≤ B → every (λ (r : Rule). body_facts r.body ≤ B) rs
 unfolding most_facts
 all-short [] B m = tt
 all-short (r ∷ rs) B m = (omega arith, all-short rs B (omega arith))
 
-light : (w : Symbol → ℕ) (rs : List Rule) (B : ℕ) → most_facts rs ≤ B → first_heavy w 0 rs ≡ none → every (Light w B) rs
+light : (w : Symbol → ℕ) (rs : List Rule) (B : ℕ) → most_facts rs ≤ B → first_heavy w 0 rs ≡ None → every (Light w B) rs
 light w rs B m e =
     every-weaken (λ (r : Rule). Loses w r × (body_facts r.body ≤ B)) (Light w B) (λ r q. record { loses = q.0; short = q.1 }) rs
     (every-both (Loses w) (λ (r : Rule). body_facts r.body ≤ B) rs (all-lose w 0 rs e) (all-short rs B m))
@@ -102,40 +102,40 @@ light w rs B m e =
 -- ---- what a weighing that gives 0 says
 
 pub record GoodWeighing (t weights g : List ℕ) (x : Weighing) : Type 0 where
-  pub table : (read_of t).verdict ≡ Good
+  pub table : (read_of t).verdict ≡ Ok tt
   pub counted : length weights ≡ (read_of t).symbols
-  pub something : first_zero 0 weights ≡ none
-  pub loses : first_heavy (weight_in weights) 0 (table_of t).rules ≡ none
-  pub goal : goal_verdict t (read_of t).symbols g ≡ Good
+  pub something : first_zero 0 weights ≡ None
+  pub loses : first_heavy (weight_in weights) 0 (table_of t).rules ≡ None
+  pub goal : goal_verdict t (read_of t).symbols g ≡ Ok tt
   pub whole : x ≡ weighed t weights g
 
 module _ (t weights g : List ℕ) where
   abbrev Says : Weighing → Type 0
   Says x = x.result.number ≡ 0 → GoodWeighing t weights g x
 
-  module _ (a : (read_of t).verdict ≡ Good) where
+  module _ (a : (read_of t).verdict ≡ Ok tt) where
     module _ (b : length weights ≡ (read_of t).symbols) where
-      module _ (c : first_zero 0 weights ≡ none) where
-        goal-says : first_heavy (weight_in weights) 0 (table_of t).rules ≡ none → (v : Verdict) → goal_verdict t (read_of t).symbols g ≡ v
+      module _ (c : first_zero 0 weights ≡ None) where
+        goal-says : first_heavy (weight_in weights) 0 (table_of t).rules ≡ None → (v : Verdict) → goal_verdict t (read_of t).symbols g ≡ v
             → Says (weigh_goal t weights g v)
-        goal-says d Good q = λ e. record { table = a; counted = b; something = c; loses = d; goal = q; whole = refl }
-        goal-says d (Refused n p) q = λ e. absurd (omega (arith, (goal-places t (read_of t).symbols g n p q).low))
+        goal-says d (Ok u) q = λ e. record { table = a; counted = b; something = c; loses = d; goal = q; whole = refl }
+        goal-says d (Err r) q = λ e. absurd (omega (arith, (goal-places t (read_of t).symbols g r q).low))
 
-        rules-say : (o : Option ℕ) → first_heavy (weight_in weights) 0 (table_of t).rules ≡ o → Says (weigh_rules t weights g o)
-        rules-say none q = goal-says q (goal_verdict t (read_of t).symbols g) refl
-        rules-say (some r) q = λ e. absurd (omega arith)
+        rules-say : (o : Option RuleNumber) → first_heavy (weight_in weights) 0 (table_of t).rules ≡ o → Says (weigh_rules t weights g o)
+        rules-say None q = goal-says q (goal_verdict t (read_of t).symbols g) refl
+        rules-say (Some r) q = λ e. absurd (omega arith)
 
-      zero-says : (o : Option ℕ) → first_zero 0 weights ≡ o → Says (weigh_zero t weights g o)
-      zero-says none q = rules-say q (first_heavy (weight_in weights) 0 (table_of t).rules) refl
-      zero-says (some s) q = λ e. absurd (omega arith)
+      zero-says : (o : Option Symbol) → first_zero 0 weights ≡ o → Says (weigh_zero t weights g o)
+      zero-says None q = rules-say q (first_heavy (weight_in weights) 0 (table_of t).rules) refl
+      zero-says (Some s) q = λ e. absurd (omega arith)
 
     count-says : (x : Bool) → eqb (length weights) (read_of t).symbols ≡ x → Says (weigh_count t weights g x)
     count-says true q = zero-says (eqb-true (length weights) (read_of t).symbols q) (first_zero 0 weights) refl
     count-says false q = λ e. absurd (omega arith)
 
   table-says : (v : Verdict) → (read_of t).verdict ≡ v → Says (weigh_table t weights g v)
-  table-says Good q = count-says q (eqb (length weights) (read_of t).symbols) refl
-  table-says (Refused n p) q = λ e. absurd (omega (arith, (refusal-small t n p q).low))
+  table-says (Ok u) q = count-says q (eqb (length weights) (read_of t).symbols) refl
+  table-says (Err r) q = λ e. absurd (omega (arith, (refusal-small t r q).low))
 
   pub good-weighing : (weigh_of t weights g).result.number ≡ 0 → GoodWeighing t weights g (weigh_of t weights g)
   unfolding weigh_of
@@ -179,7 +179,7 @@ module _ (t weights g : List ℕ) (zero_number : (weigh_of t weights g).result.n
       (let d = demand3 (table_of t) (weight_in weights) (most_places (table_of t) (table_of t).symbols) (most_facts (table_of t).rules) weights-weigh
       (goal_of g) limit in
       run-cases (λ o. Promise (weighed t weights g).weight (weighed t weights g).bound limit o.result) t g limit buffer
-      (λ n p low high near. refused-promise _ _ limit n p low)
+      (λ r low high near. refused-promise _ _ limit (number_of r.reason) r.place low)
       (λ k. record { steps = d.steps; firings = d.firings; never_limit = d.never_limit; never_full = d.never_full; never_history = d.never_history }))
 
 -- ---- the bound is a legal limit

@@ -4,10 +4,10 @@ use Prim.Native.Nat.{ℕ, ◌-◌, ◌≤◌, ◌<◌}
 use native.Mathlib.Omega.{arith}
 use mathlib.Core.Path.{◌≡◌, refl}
 use mathlib.Core.Bool.{Bool, true, false, ◌||◌}
-use mathlib.Core.Option.{Option, none, some}
+use Rattle.std.specs.Prelude.{Option, Some, None, slice_get}
 use mathlib.Core.List.{List}
 use lib.Dec.{eqb, leb, ltb}
-use lib.ListN.{length, get_elem?}
+use lib.ListN.{length}
 use Rattle.model.specs.declared.FactId.{FactId}
 use Rattle.model.specs.declared.RuleNumber.{RuleNumber}
 use Rattle.model.specs.declared.Fact.{Fact}
@@ -37,10 +37,10 @@ pub record EndsWith (t : Table) (n p : ℕ) : Type 0 where
 
 module _ {t : Table} where
   pub at-rule : (n p : ℕ) → n ≤ 7 → names_rule n ≡ true → p < length t.rules → EndsWith t n p
-  at-rule n p l e h = record { number = l; rule = λ q. h; other = λ q. let z : ◌≡◌ {A = ℕ} 0 1 = cc in absurd (omega arith) }
+  at-rule n p l e h = record { number = l; rule = λ q. h; other = λ q. absurd cc }
 
   pub at-none : (n : ℕ) → n ≤ 7 → names_rule n ≡ false → EndsWith t n 0
-  at-none n l e = record { number = l; rule = λ q. let z : ◌≡◌ {A = ℕ} 0 1 = cc in absurd (omega arith); other = λ q. refl }
+  at-none n l e = record { number = l; rule = λ q. absurd cc; other = λ q. refl }
 
   -- at any rate no rule behind the last
   pub place-few : {n p : ℕ} → EndsWith t n p → p ≤ length t.rules
@@ -70,8 +70,8 @@ module _ (m : Memory) (t : Table) (st : State) (e : Entry) (es : List Entry) whe
 
   body-ends : (p : HeadPlace) (chosen : List FactId) → p.rule.0 < length t.rules → (o : Option (List Entry))
       → StopsWith t (with_body m t st e es p chosen o)
-  body-ends p chosen h none = (omega arith, at-rule 4 p.rule.0 (omega arith) refl h)
-  body-ends p chosen h (some body) =
+  body-ends p chosen h None = (omega arith, at-rule 4 p.rule.0 (omega arith) refl h)
+  body-ends p chosen h (Some body) =
       let after : State = fired m st e es p (rule_at t p.rule) chosen body in
       stack-ends (leb (length after.stack) stack_room) p.rule after h
 
@@ -82,8 +82,8 @@ module _ (m : Memory) (t : Table) (st : State) (e : Entry) (es : List Entry) whe
 
   place-ends : (i : FactId) (j k : ℕ) (o : Option HeadPlace) → OptionIs (λ p. PlaceIn t e.symbol p × (k < length (places t e.symbol))) o
       → StopsWith t (at_place m t st e es i j o)
-  place-ends i j k none u = tt
-  place-ends i j k (some p) u = found-ends i j p u.0.rule_in (first_instance st.store st.history p (rule_at t p.rule) i)
+  place-ends i j k None u = tt
+  place-ends i j k (Some p) u = found-ends i j p u.0.rule_in (first_instance st.store st.history p (rule_at t p.rule) i)
 
   activate-ends : (f : Fact) (b : Bool) → StopsWith t (activate st e es f b)
   activate-ends f true = tt
@@ -93,7 +93,7 @@ module _ (m : Memory) (t : Table) (st : State) (e : Entry) (es : List Entry) whe
   unfolding step_with
   step-ends (Waiting f) = activate-ends f (ltb (length st.store) store_room)
   step-ends (Active i j) =
-      place-ends i j.0 (j.0 - 1) (get_elem? (places t e.symbol) (j.0 - 1))
+      place-ends i j.0 (j.0 - 1) (slice_get (places t e.symbol) (j.0 - 1))
       (index-is (PlaceIn t e.symbol) (places t e.symbol) (j.0 - 1) (places-in t e.symbol))
   step-ends Fail = tt
 

@@ -14,24 +14,27 @@ use lib.ListN.{length, get_or, set, length-set, length-replicate}
 use lib.Seq.{get_or-set_same, get_or-set_other}
 use borrow.Author.Tests.{ltb-false, leb-true, leb-false, le-leb, eqb-true, eqb-false, ne_eqb, not-false}
 use Rattle.model.specs.declared.Kind.{Kind}
-use Rattle.model.specs.declared.Kind.TheVariants.{NextSymbol, NextRule, KeptHead, RemovedHead, Comparison, BodyFact, BodyFail, EndOfTable, Unknown}
+use Rattle.model.specs.declared.Kind.TheVariants.{NextSymbol, NextRule, KeptHead, RemovedHead, Comparison, BodyFact, BodyFail, EndOfTable}
 use Rattle.model.specs.declared.RuleShape.{RuleShape}
 use Rattle.model.specs.declared.Scan.{Scan}
-use Rattle.model.specs.declared.RecordStep.{RecordStep}
-use Rattle.model.specs.declared.RecordStep.TheVariants.{Next, Stop, Done}
+use Rattle.std.specs.Prelude.{Option, Some, None, Ok, Err}
+use Rattle.model.specs.declared.Behind.TheVariants.{Next, Done}
+use Rattle.model.specs.declared.Reason.{Reason}
+use Rattle.model.specs.declared.Reason.TheVariants.{UnknownKind, CutShort, OutOfOrder, TooMany, BadField, Headless, StrangeVariable, BytesBehind}
+use Rattle.model.specs.declared.Reason.TheVariants.{GoalLength, BadGoalFact, LongGoal}
+use Rattle.model.specs.declared.Refusal.{Refusal}
 use Rattle.model.specs.declared.Reading.{Reading}
-use Rattle.model.specs.declared.Verdict.{Verdict}
-use Rattle.model.specs.declared.Verdict.TheVariants.{Good, Refused}
+use Rattle.model.specs.Refusals.{Verdict, number_of, refused}
 use Rattle.model.specs.Limits.{most_symbols, most_rules, most_heads, most_guards, most_items, most_goal_facts}
 use Rattle.model.specs.Records.{kind_of, size_of, earliest_of, latest_of, out_of_order, headless, too_many}
 use Rattle.model.specs.Fields.{arity_at, head_bad, body_fact_bad, bad_field}
 use Rattle.model.specs.Variables.{strange}
 use Rattle.model.specs.Reading.{no_shape, no_shapes, first_scan, reading, with_part, with_rule, with_symbol, with_kept, with_removed, with_guard}
-use Rattle.model.specs.Reading.{with_item, behind, fields_of, ordered_of, tested_of, record_of, noted, ended, go_on, read_from, read_of}
+use Rattle.model.specs.Reading.{RecordStep, with_item, behind, fields_of, ordered_of, tested_of, known_of, record_of, noted, ended, go_on, read_from, read_of}
 use Rattle.model.specs.Table.{is_fact, behind_item, heads_start, items_start}
 use Rattle.model.specs.Goal.{later_bad, later_places_bad, goal_fact_bad, facts_verdict, goal_verdict}
 use Rattle.wire.specs.Wire.{u32_at}
-use Rattle.model.proofs.Lists.{or-false-left, or-false-right, either}
+use Rattle.model.proofs.Lists.{or-false-left, or-false-right, either, OptionIs}
 
 -- a body item lies in the table, and the symbol of a body fact is declared
 pub record ItemIn (t : List ℕ) (symbols p : ℕ) : Type 0 where
@@ -240,7 +243,7 @@ module _ (t : List ℕ) (s : Scan) (shapes : List RuleShape) (h : Sane t s shape
 -- ---- what the tests of a record tell
 
 not-both : (b : Bool) → b ≡ false → b ≡ true → ⊥
-not-both b e d = let z : ◌≡◌ {A = ℕ} 0 1 = cc in omega arith
+not-both b e d = cc
 
 module _ (k : Kind) (stage : ℕ) (e : out_of_order k stage ≡ false) where
   pub not-early : earliest_of k ≤ stage
@@ -269,19 +272,18 @@ KindByte b Comparison = b ≡ 5
 KindByte b BodyFact = b ≡ 6
 KindByte b BodyFail = b ≡ 7
 KindByte b EndOfTable = b ≡ 8
-KindByte b Unknown = Unit {0}
 
-kind-byte : (b : ℕ) → KindByte b (kind_of b)
+kind-byte : (b : ℕ) → OptionIs (KindByte b) (kind_of b)
 unfolding kind_of
 kind-byte b =
-    either (KindByte b) (eqb b 1) NextSymbol _ (eqb-true b 1) (λ e1.
-    either (KindByte b) (eqb b 2) NextRule _ (eqb-true b 2) (λ e2.
-    either (KindByte b) (eqb b 3) KeptHead _ (eqb-true b 3) (λ e3.
-    either (KindByte b) (eqb b 4) RemovedHead _ (eqb-true b 4) (λ e4.
-    either (KindByte b) (eqb b 5) Comparison _ (eqb-true b 5) (λ e5.
-    either (KindByte b) (eqb b 6) BodyFact _ (eqb-true b 6) (λ e6.
-    either (KindByte b) (eqb b 7) BodyFail _ (eqb-true b 7) (λ e7.
-    either (KindByte b) (eqb b 8) EndOfTable Unknown (eqb-true b 8) (λ e. tt))))))))
+    either (OptionIs (KindByte b)) (eqb b 1) (Some NextSymbol) _ (eqb-true b 1) (λ e1.
+    either (OptionIs (KindByte b)) (eqb b 2) (Some NextRule) _ (eqb-true b 2) (λ e2.
+    either (OptionIs (KindByte b)) (eqb b 3) (Some KeptHead) _ (eqb-true b 3) (λ e3.
+    either (OptionIs (KindByte b)) (eqb b 4) (Some RemovedHead) _ (eqb-true b 4) (λ e4.
+    either (OptionIs (KindByte b)) (eqb b 5) (Some Comparison) _ (eqb-true b 5) (λ e5.
+    either (OptionIs (KindByte b)) (eqb b 6) (Some BodyFact) _ (eqb-true b 6) (λ e6.
+    either (OptionIs (KindByte b)) (eqb b 7) (Some BodyFail) _ (eqb-true b 7) (λ e7.
+    either (OptionIs (KindByte b)) (eqb b 8) (Some EndOfTable) None (eqb-true b 8) (λ e. tt))))))))
 
 pub six-fact : (t : List ℕ) (p : ℕ) → get_or t p 0 ≡ 6 → is_fact t p ≡ true
 unfolding is_fact
@@ -315,9 +317,9 @@ one-more t r at symbols before here new i l = go (eq-or-lt_of_le {n = i} {m = r.
 
 -- what a record comes to: a refusal is near, and an end stands behind no rule without a head
 abbrev pub StepIs : List ℕ → Scan → List RuleShape → RecordStep → Type 0
-StepIs t s shapes (Next s') = (s.at < s'.at) × Sane t s' (noted shapes s')
-StepIs t s shapes (Stop n p) = TableRefusal n p
-StepIs t s shapes (Done p) = (p ≡ s.at + 1) × (s.stage ≡ 1 → ⊥)
+StepIs t s shapes (Ok (Next s')) = (s.at < s'.at) × Sane t s' (noted shapes s')
+StepIs t s shapes (Err r) = TableRefusal (number_of r.reason) r.place
+StepIs t s shapes (Ok (Done p)) = (p ≡ s.at + 1) × (s.stage ≡ 1 → ⊥)
 
 module _ (t : List ℕ) (s : Scan) (shapes : List RuleShape) (h : Sane t s shapes) where
   -- one part more of the rule that is being read
@@ -509,7 +511,7 @@ module _ (t : List ℕ) (s : Scan) (shapes : List RuleShape) (h : Sane t s shape
       part-sane 22 3 (with_removed s.shape) one (omega arith) q.lies
       (head-in 3 s.shape.kept one (omega arith) (omega arith) (leb-false 4 s.shape.heads q.few) q.fields q.lies)
 
-  behind-is : (k : Kind) → Passed t s k → StepIs t s shapes (behind s k)
+  behind-is : (k : Kind) → Passed t s k → StepIs t s shapes (Ok (behind s k))
   unfolding behind
   behind-is NextSymbol q = (omega arith, symbol-sane q)
   behind-is NextRule q = (omega arith, rule-sane q)
@@ -519,27 +521,26 @@ module _ (t : List ℕ) (s : Scan) (shapes : List RuleShape) (h : Sane t s shape
   behind-is BodyFact q = (omega arith, fact-sane q)
   behind-is BodyFail q = (omega arith, fail-sane q)
   behind-is EndOfTable q = (refl, eqb-false s.stage 1 q.headed)
-  behind-is Unknown q = refusal-at t s shapes h 16 s.at (omega arith) (omega arith) (omega arith)
 
   here : (n : ℕ) → 16 ≤ n → n ≤ 23 → TableRefusal n s.at
   here n l g = refusal-at t s shapes h n s.at l g (omega arith)
 
   -- what holds of each refusal of a table, and of what comes behind a record that passes all its tests, holds of what a record comes to
-  module _ (P : RecordStep → Type 0) (refused : (n p : ℕ) → TableRefusal n p → P (Stop n p)) (passed : (k : Kind) → Passed t s k → P (behind s k)) where
-    stopped : (b : Bool) (n p : ℕ) (y : RecordStep) → TableRefusal n p → (b ≡ false → P y) → P (cond b (Stop n p) y)
-    stopped true n p y r q = refused n p r
+  module _ (P : RecordStep → Type 0) (refuses : (r : Refusal) → TableRefusal (number_of r.reason) r.place → P (Err r))
+      (passed : (k : Kind) → Passed t s k → P (Ok (behind s k))) where
+    stopped : (b : Bool) (n : Reason) (p : ℕ) (y : RecordStep) → TableRefusal (number_of n) p → (b ≡ false → P y) → P (cond b (refused n p) y)
+    stopped true n p y r q = refuses (record { reason = n; place = p }) r
     stopped false n p y r q = q refl
 
     tested-by : (k : Kind) → KindByte (get_or t s.at 0) k → P (tested_of t s k)
     unfolding tested_of ordered_of fields_of
     tested-by k byte =
-        stopped (eqb (size_of k) 0) 16 s.at _ (here 16 (omega arith) (omega arith)) (λ known.
-        stopped (ltb (length t) (s.at + size_of k)) 17 s.at _ (here 17 (omega arith) (omega arith)) (λ lies.
-        stopped (out_of_order k s.stage) 18 s.at _ (here 18 (omega arith) (omega arith)) (λ ordered.
-        stopped (headless k s.stage) 21 s.at _ (here 21 (omega arith) (omega arith)) (λ headed.
-        stopped (too_many k s) 19 s.at _ (here 19 (omega arith) (omega arith)) (λ few.
-        stopped (bad_field t s k) 20 s.at _ (here 20 (omega arith) (omega arith)) (λ fields.
-        stopped (strange t s k) 22 s.at _ (here 22 (omega arith) (omega arith)) (λ usual.
+        stopped (ltb (length t) (s.at + size_of k)) CutShort s.at _ (here 17 (omega arith) (omega arith)) (λ lies.
+        stopped (out_of_order k s.stage) OutOfOrder s.at _ (here 18 (omega arith) (omega arith)) (λ ordered.
+        stopped (headless k s.stage) Headless s.at _ (here 21 (omega arith) (omega arith)) (λ headed.
+        stopped (too_many k s) TooMany s.at _ (here 19 (omega arith) (omega arith)) (λ few.
+        stopped (bad_field t s k) BadField s.at _ (here 20 (omega arith) (omega arith)) (λ fields.
+        stopped (strange t s k) StrangeVariable s.at _ (here 22 (omega arith) (omega arith)) (λ usual.
         passed k (record {
           byte = byte;
           lies = ltb-false (length t) (s.at + size_of k) lies;
@@ -548,38 +549,44 @@ module _ (t : List ℕ) (s : Scan) (shapes : List RuleShape) (h : Sane t s shape
           few = few;
           fields = fields;
           usual = usual;
-        }))))))))
+        })))))))
+
+    known-by : (o : Option Kind) → OptionIs (KindByte (get_or t s.at 0)) o → P (known_of t s o)
+    unfolding known_of
+    known-by None byte = refuses (record { reason = UnknownKind; place = s.at }) (here 16 (omega arith) (omega arith))
+    known-by (Some k) byte = tested-by k byte
 
     pub record-by : P (record_of t s)
     unfolding record_of
     record-by = go (leb (length t) s.at) refl
       where
-        go : (b : Bool) → leb (length t) s.at ≡ b → P (cond b (Stop 17 (length t)) (tested_of t s (kind_of (get_or t s.at 0))))
+        go : (b : Bool) → leb (length t) s.at ≡ b → P (cond b (refused CutShort (length t)) (known_of t s (kind_of (get_or t s.at 0))))
         go true e =
-            refused 17 (length t)
+            refuses (record { reason = CutShort; place = length t })
             (refusal-at t s shapes h 17 (length t) (omega arith) (omega arith) (omega (arith, leb-true (length t) s.at e)))
-        go false e = tested-by (kind_of (get_or t s.at 0)) (kind-byte (get_or t s.at 0))
+        go false e = known-by (kind_of (get_or t s.at 0)) (kind-byte (get_or t s.at 0))
 
   pub record-is : StepIs t s shapes (record_of t s)
-  record-is = record-by (StepIs t s shapes) (λ n p r. r) behind-is
+  record-is = record-by (StepIs t s shapes) (λ r k. k) behind-is
 
 -- a good record keeps the invariant, and goes on
-pub next-sane : (t : List ℕ) (s s' : Scan) (shapes : List RuleShape) → Sane t s shapes → record_of t s ≡ Next s' → Sane t s' (noted shapes s')
+pub next-sane : (t : List ℕ) (s s' : Scan) (shapes : List RuleShape) → Sane t s shapes → record_of t s ≡ Ok (Next s') → Sane t s' (noted shapes s')
 next-sane t s s' shapes h e = (subst (StepIs t s shapes) e (record-is t s shapes h)).1
 
 -- ---- the whole table
 
 -- what a reading's verdict tells
 abbrev pub VerdictIs : List ℕ → Reading → Verdict → Type 0
-VerdictIs t r Good = GoodReading t r
-VerdictIs t r (Refused n p) = TableRefusal n p
+VerdictIs t r (Ok u) = GoodReading t r
+VerdictIs t r (Err x) = TableRefusal (number_of x.reason) x.place
 
 ended-is : (t : List ℕ) (s : Scan) (shapes : List RuleShape) (p : ℕ) → Sane t s shapes → p ≡ s.at + 1 → (s.stage ≡ 1 → ⊥)
     → VerdictIs t (reading (ended t p) s.symbols s.rules shapes) (ended t p)
 unfolding ended
 ended-is t s shapes p h e d = go (ltb p (length t)) refl
   where
-    go : (b : Bool) → ltb p (length t) ≡ b → VerdictIs t (reading (cond b (Refused 23 p) Good) s.symbols s.rules shapes) (cond b (Refused 23 p) Good)
+    go : (b : Bool) → ltb p (length t) ≡ b
+        → VerdictIs t (reading (cond b (refused BytesBehind p) (Ok tt)) s.symbols s.rules shapes) (cond b (refused BytesBehind p) (Ok tt))
     go true l = refusal-at t s shapes h 23 p (omega arith) (omega arith) (omega arith)
     go false l = record {
       few_symbols = h.few_symbols;
@@ -594,9 +601,9 @@ go-on-is : (n : ℕ) (t : List ℕ) (s : Scan) (shapes : List RuleShape) → San
     → VerdictIs t (read_from n t s' shapes') (read_from n t s' shapes').verdict)
     → (r : RecordStep) → StepIs t s shapes r → VerdictIs t (go_on t s shapes (read_from n t) r) (go_on t s shapes (read_from n t) r).verdict
 unfolding go_on
-go-on-is n t s shapes h l ih (Next s') q = ih s' (noted shapes s') q.1 (omega (arith, q.0))
-go-on-is n t s shapes h l ih (Stop k p) q = q
-go-on-is n t s shapes h l ih (Done p) q = ended-is t s shapes p h q.0 q.1
+go-on-is n t s shapes h l ih (Ok (Next s')) q = ih s' (noted shapes s') q.1 (omega (arith, q.0))
+go-on-is n t s shapes h l ih (Err r) q = q
+go-on-is n t s shapes h l ih (Ok (Done p)) q = ended-is t s shapes p h q.0 q.1
 
 -- each record takes a byte, so that the count of records left is enough
 pub read-is : (n : ℕ) (t : List ℕ) (s : Scan) (shapes : List RuleShape) → Sane t s shapes → length t ≤ n + s.at
@@ -609,12 +616,12 @@ pub table-is : (t : List ℕ) → VerdictIs t (read_of t) (read_of t).verdict
 unfolding read_of
 table-is t = read-is (length t) t first_scan no_shapes (first-sane t) (omega arith)
 
-pub good-table : (t : List ℕ) → (read_of t).verdict ≡ Good → GoodTable t
+pub good-table : (t : List ℕ) → (read_of t).verdict ≡ Ok tt → GoodTable t
 good-table t e = subst (VerdictIs t (read_of t)) e (table-is t)
 
 -- the number of a refused table, and a bound on the place
-pub refusal-small : (t : List ℕ) (n p : ℕ) → (read_of t).verdict ≡ Refused n p → TableRefusal n p
-refusal-small t n p e = subst (VerdictIs t (read_of t)) e (table-is t)
+pub refusal-small : (t : List ℕ) (r : Refusal) → (read_of t).verdict ≡ Err r → TableRefusal (number_of r.reason) r.place
+refusal-small t r e = subst (VerdictIs t (read_of t)) e (table-is t)
 
 -- ---- a goal
 
@@ -660,14 +667,14 @@ later-zero arity g p e =
     (later-test arity 3 (u32_at g (p + 12)) (or-false-right (later_bad arity 2 (u32_at g (p + 8))) _ b))
 
 abbrev pub GoalIs : List ℕ → ℕ → List ℕ → Verdict → Type 0
-GoalIs t symbols g Good = WholeGoal t symbols g
-GoalIs t symbols g (Refused n p) = GoalRefusal n p
+GoalIs t symbols g (Ok u) = WholeGoal t symbols g
+GoalIs t symbols g (Err r) = GoalRefusal (number_of r.reason) r.place
 
 module _ (t : List ℕ) (symbols : ℕ) (g : List ℕ) where
   -- the same of the n facts from fact k on
   abbrev FactsAre : ℕ → ℕ → Verdict → Type 0
-  FactsAre k n Good = (i : ℕ) → k ≤ i → i < k + n → goal_fact_bad t symbols g (18 * i) ≡ false
-  FactsAre k n (Refused m p) = GoalRefusal m p
+  FactsAre k n (Ok u) = (i : ℕ) → k ≤ i → i < k + n → goal_fact_bad t symbols g (18 * i) ≡ false
+  FactsAre k n (Err r) = GoalRefusal (number_of r.reason) r.place
 
   goal-fact-kind : (p : ℕ) → goal_fact_bad t symbols g p ≡ false → get_or g p 0 ≡ 16
   unfolding goal_fact_bad
@@ -685,12 +692,12 @@ module _ (t : List ℕ) (symbols : ℕ) (g : List ℕ) where
       (or-false-right (leb symbols (get_or g (p + 1) 0)) _ (or-false-right (not (eqb (get_or g p 0) 16)) _ e))
 
   one-fact : (k n : ℕ) → goal_fact_bad t symbols g (18 * k) ≡ false → (v : Verdict) → FactsAre (k + 1) n v → FactsAre k (suc n) v
-  one-fact k n e Good u = λ i l m. first-or-later i m (eq-or-lt_of_le l)
+  one-fact k n e (Ok v) u = λ i l m. first-or-later i m (eq-or-lt_of_le l)
     where
       first-or-later : (i : ℕ) → i < k + suc n → (k ≡ i) ⊎ (k < i) → goal_fact_bad t symbols g (18 * i) ≡ false
       first-or-later i m (inl d) = rw (← d) e
       first-or-later i m (inr d) = u i (omega arith) (omega arith)
-  one-fact k n e (Refused a b) u = u
+  one-fact k n e (Err r) u = u
 
   facts-are : (k n : ℕ) → k + n ≤ most_goal_facts → FactsAre k n (facts_verdict t symbols g k n)
   unfolding facts_verdict
@@ -698,12 +705,12 @@ module _ (t : List ℕ) (symbols : ℕ) (g : List ℕ) where
   facts-are k (suc n) l = go (goal_fact_bad t symbols g (18 * k)) refl (facts-are (k + 1) n (omega arith))
     where
       go : (b : Bool) → goal_fact_bad t symbols g (18 * k) ≡ b → FactsAre (k + 1) n (facts_verdict t symbols g (k + 1) n)
-          → FactsAre k (suc n) (elim b [ true ↦ Refused 33 k | false ↦ facts_verdict t symbols g (k + 1) n ])
+          → FactsAre k (suc n) (elim b [ true ↦ refused BadGoalFact k | false ↦ facts_verdict t symbols g (k + 1) n ])
       go true e u = record { low = omega arith; high = omega arith; near = omega arith }
       go false e u = one-fact k n e (facts_verdict t symbols g (k + 1) n) u
 
   counted : length g % 18 ≡ 0 → length g / 18 ≤ most_goal_facts → (v : Verdict) → FactsAre 0 (length g / 18) v → GoalIs t symbols g v
-  counted e l Good u = record {
+  counted e l (Ok v) u = record {
     good = record {
       whole = omega (arith, div-add-mod (length g) 18);
       few = l;
@@ -713,34 +720,35 @@ module _ (t : List ℕ) (symbols : ℕ) (g : List ℕ) where
     facts = λ i m. u i (omega arith) (omega arith);
     later = λ i m. goal-fact-later (18 * i) (u i (omega arith) (omega arith));
   }
-  counted e l (Refused a b) u = u
+  counted e l (Err r) u = u
 
   pub goal-is : GoalIs t symbols g (goal_verdict t symbols g)
   unfolding goal_verdict
   goal-is = go (eqb (length g % 18) 0) refl
     where
       go' : length g % 18 ≡ 0 → (b : Bool) → leb (length g / 18) most_goal_facts ≡ b
-          → GoalIs t symbols g (cond b (facts_verdict t symbols g 0 (length g / 18)) (Refused 34 0))
+          → GoalIs t symbols g (cond b (facts_verdict t symbols g 0 (length g / 18)) (refused LongGoal 0))
       go' e true q =
           let l : length g / 18 ≤ 64 = leb-true (length g / 18) 64 q in
           counted e l (facts_verdict t symbols g 0 (length g / 18)) (facts-are 0 (length g / 18) (omega arith))
       go' e false q = record { low = omega arith; high = omega arith; near = omega arith }
 
       go : (b : Bool) → eqb (length g % 18) 0 ≡ b
-          → GoalIs t symbols g (cond b (cond (leb (length g / 18) most_goal_facts) (facts_verdict t symbols g 0 (length g / 18)) (Refused 34 0)) (Refused 32 0))
+          → GoalIs t symbols g
+          (cond b (cond (leb (length g / 18) most_goal_facts) (facts_verdict t symbols g 0 (length g / 18)) (refused LongGoal 0)) (refused GoalLength 0))
       go true e = go' (eqb-true (length g % 18) 0 e) (leb (length g / 18) most_goal_facts) refl
       go false e = record { low = omega arith; high = omega arith; near = omega arith }
 
-  pub whole-goal : goal_verdict t symbols g ≡ Good → WholeGoal t symbols g
+  pub whole-goal : goal_verdict t symbols g ≡ Ok tt → WholeGoal t symbols g
   whole-goal e = subst (GoalIs t symbols g) e goal-is
 
-  pub good-goal : goal_verdict t symbols g ≡ Good → GoodGoal symbols g
+  pub good-goal : goal_verdict t symbols g ≡ Ok tt → GoodGoal symbols g
   good-goal e = (whole-goal e).good
 
-  pub goal-places : (n p : ℕ) → goal_verdict t symbols g ≡ Refused n p → GoalRefusal n p
-  goal-places n p e = subst (GoalIs t symbols g) e goal-is
+  pub goal-places : (r : Refusal) → goal_verdict t symbols g ≡ Err r → GoalRefusal (number_of r.reason) r.place
+  goal-places r e = subst (GoalIs t symbols g) e goal-is
 
 -- ---- "The longest good table has 23,681 bytes."
 
-pub length-limit : (t : List ℕ) → 23681 < length t → (read_of t).verdict ≡ Good → ⊥
+pub length-limit : (t : List ℕ) → 23681 < length t → (read_of t).verdict ≡ Ok tt → ⊥
 length-limit t l e = let short : length t ≤ 23681 = (good-table t e).short in omega arith

@@ -6,11 +6,11 @@ use Prim.Native.Nat.{ℕ, suc, ◌+◌, ◌-◌, ◌≤◌, ◌<◌}
 use native.Mathlib.Omega.{arith}
 use mathlib.Core.Path.{◌≡◌, refl, ap, subst}
 use mathlib.Core.Bool.{Bool, true, false, not}
-use mathlib.Core.Option.{Option, none, some}
+use Rattle.std.specs.Prelude.{Option, Some, None, slice_get}
 use mathlib.Core.List.{List, [], ◌∷◌, ◌++◌, map, Memᴰ}
 use lib.IntN.{ℤ}
 use lib.Dec.{leb, ltb}
-use lib.ListN.{length, get_or, get_elem?, length-append, length-map}
+use lib.ListN.{length, get_or, length-append, length-map}
 use borrow.Author.Tests.{ltb-true, leb-true}
 use Rattle.numbers.proofs.Laws.{InRange}
 use Rattle.model.specs.declared.FactId.{FactId}
@@ -26,8 +26,9 @@ use Rattle.model.specs.declared.Binding.{Binding}
 use Rattle.model.specs.declared.HeadPlace.{HeadPlace}
 use Rattle.model.specs.Limits.{store_room, stack_room, history_room, most_goal_facts}
 use Rattle.model.specs.Table.{Head, Rule, Table, BodyItem, body_fact, body_fail, rule_at, places}
-use Rattle.model.specs.Search.{Fired, Found, nothing, undefined_guard, applies, is_among, nobody, four, fired_of, first_instance}
-use Rattle.model.specs.Steps.{State, waiting, start, argument_values, waiting_if, item_entry, cons_entry, body_entries, keep, gone, without, pruned}
+use Rattle.model.specs.declared.Fired.{Fired}
+use Rattle.model.specs.Search.{Found, nothing, undefined_guard, applies, is_among, nobody, four, fired_of, first_instance}
+use Rattle.model.specs.Steps.{State, waiting, start, argument_values, waiting_if, item_entry, cons_defined, body_entries, keep, gone, without, pruned}
 use Rattle.model.specs.Steps.{remembered, prunes, activated, advanced, dropped, pop_if, is_removed, fired, Outcome, moves, fires, fails, stops}
 use Rattle.model.specs.Steps.{within_history, within_stack, with_body, with_found, at_place, activate, step_with, step_item}
 use Rattle.model.specs.Results.{Counts, no_counts}
@@ -141,8 +142,8 @@ module _ (t : Table) (n : ℕ) (b : Binding) (k : BindingRanged b) where
   item-kept (body_fact s es) r = go (argument_values b es) (arguments-ranged b es k r)
     where
       go : (o : Option (List ℤ)) → OptionIs (every InRange) o → OptionIs (EntryKept t n) (waiting_if s o)
-      go none u = tt
-      go (some vs) u = record { same = refl; ranged = fact-ranged s vs u }
+      go None u = tt
+      go (Some vs) u = record { same = refl; ranged = fact-ranged s vs u }
   item-kept body_fail r = tt
 
   body-kept : (is : List BodyItem) → every ItemRanged is → OptionIs (every (EntryKept t n)) (body_entries b is)
@@ -151,10 +152,10 @@ module _ (t : Table) (n : ℕ) (b : Binding) (k : BindingRanged b) where
   body-kept (i ∷ is) r = go (item_entry b i) (body_entries b is) (item-kept i r.0) (body-kept is r.1)
     where
       go : (o : Option Entry) (p : Option (List Entry)) → OptionIs (EntryKept t n) o → OptionIs (every (EntryKept t n)) p
-          → OptionIs (every (EntryKept t n)) (cons_entry o p)
-      go none p u v = tt
-      go (some e) none u v = tt
-      go (some e) (some es) u v = (u, v)
+          → OptionIs (every (EntryKept t n)) (cons_defined o p)
+      go None p u v = tt
+      go (Some e) None u v = tt
+      go (Some e) (Some es) u v = (u, v)
 
 -- ---- a step
 
@@ -222,8 +223,8 @@ module _ (t : Table) (r : TableRanged t) (k : ℕ) (st : State) (e : Entry) (es 
       → Instance st.store st.history p (rule_at t p.rule) i chosen b
       → (o : Option (List Entry)) → OptionIs (every (EntryKept t st.next)) o → OutcomeKept t (suc k) (with_body prunes t st e es p chosen o)
   unfolding fired without fired_of
-  body-step i p chosen b c none u = tt
-  body-step i p chosen b c (some body) u =
+  body-step i p chosen b c None u = tt
+  body-step i p chosen b c (Some body) u =
       within-kept t (suc k) p.rule (fired prunes st e es p (rule_at t p.rule) chosen body)
       (λ roomy short. record {
         stack = roomy;
@@ -261,7 +262,7 @@ module _ (t : Table) (r : TableRanged t) (k : ℕ) (st : State) (e : Entry) (es 
       → OptionIs (λ p. every ItemRanged (rule_at t p.rule).body × (j.0 - 1 < length (places t e.symbol))) o
       → OutcomeKept t (suc k) (at_place prunes t st e es i j.0 o)
   unfolding dropped
-  place-step i j a none u = record {
+  place-step i j a None u = record {
     stack = omega (arith, deep);
     store = z.store;
     history = z.history;
@@ -271,7 +272,7 @@ module _ (t : Table) (r : TableRanged t) (k : ℕ) (st : State) (e : Entry) (es 
     entries = both.1;
     fired = z.fired;
   }
-  place-step i j a (some p) u =
+  place-step i j a (Some p) u =
       found-step i j a u.1 p u.0 (first_instance st.store st.history p (rule_at t p.rule) i)
       (instance-is st.store st.history p (rule_at t p.rule) i) (found-ranged st.store st.history p (rule_at t p.rule) i z.facts)
 
@@ -298,7 +299,7 @@ module _ (t : Table) (r : TableRanged t) (k : ℕ) (st : State) (e : Entry) (es 
   unfolding step_with
   item-step (Waiting f) w = activate-step f w (ltb (length st.store) store_room) refl
   item-step (Active i j) a =
-      place-step i j a (get_elem? (places t e.symbol) (j.0 - 1))
+      place-step i j a (slice_get (places t e.symbol) (j.0 - 1))
       (index-is (λ (p : HeadPlace). every ItemRanged (rule_at t p.rule).body) (places t e.symbol) (j.0 - 1)
       (places-have t e.symbol (λ (r : Rule). every ItemRanged r.body) r))
   item-step Fail a = tt

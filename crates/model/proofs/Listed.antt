@@ -6,11 +6,11 @@ use native.Mathlib.Omega.{arith}
 use mathlib.Core.Path.{◌≡◌, refl, sym, subst}
 use mathlib.Core.Logic.{◌⊎◌, inl, inr}
 use mathlib.Core.Bool.{Bool, true, false}
-use mathlib.Core.Option.{some}
+use Rattle.std.specs.Prelude.{Some, slice_get}
 use mathlib.Core.List.Memᴰ
 use mathlib.Core.List.{List, [], ◌∷◌, ◌++◌, Memᴰ}
 use lib.Dec.{ltb}
-use lib.ListN.{length, get_or, get_elem?}
+use lib.ListN.{length, get_or}
 use borrow.Author.Tests.{eq-eqb, ltb-true, ltb-false}
 use Rattle.model.specs.declared.Symbol.{Symbol}
 use Rattle.model.specs.declared.HeadPlace.{HeadPlace}
@@ -26,7 +26,7 @@ Before p q = (p.rule.0 < q.rule.0) ⊎ ((p.rule.0 ≡ q.rule.0) × (q.head < p.h
 
 -- x stands at index i of l
 abbrev pub StandsAt : {A : Type 0} → List A → ℕ → A → Type 0
-StandsAt l i x = get_elem? l i ≡ some x
+StandsAt l i x = slice_get l i ≡ Some x
 
 -- The listing of s. A place is a head of s if its rule and its head are there and the head has that symbol (PlaceIn).
 pub record AllPlaces (t : Table) (s : Symbol) : Type 0 where
@@ -41,7 +41,7 @@ place_of n k = record { rule = record { 0 = n }; head = k }
 
 place_if-has : (b : Bool) (p : HeadPlace) → b ≡ true → Memᴰ p (place_if b p)
 place_if-has true p e = Memᴰ.head refl
-place_if-has false p e = let z : ◌≡◌ {A = ℕ} 0 1 = cc in absurd (omega arith)
+place_if-has false p e = absurd cc
 
 module _ (s : Symbol) where
   in-rule : (n k : ℕ) (hs : List Head) (i m : ℕ) → i < length hs → (get_or hs i no_head).symbol.0 ≡ s.0 → k + i ≡ m
@@ -140,7 +140,7 @@ stands : {A : Type 0} (P : A → Type 0) (l : List A) → every P l → (i : ℕ
 stands P l u i x e = (subst (OptionIs (λ x. P x × (i < length l))) e (index-is P l i u)).0
 
 sorted-at : (l : List HeadPlace) → Sorted l → (i j : ℕ) (p q : HeadPlace) → i < j → StandsAt l i p → StandsAt l j q → Before p q
-sorted-at [] u i j p q h a b = let z : ◌≡◌ {A = ℕ} 0 1 = cc in absurd (omega arith)
+sorted-at [] u i j p q h a b = absurd cc
 sorted-at (x ∷ l) u zero zero p q h a b = absurd (omega arith)
 sorted-at (x ∷ l) u zero (suc j) p q h a b = let e : x ≡ p = cc in subst (λ (y : HeadPlace). Before y q) e (stands (Before x) l u.0 j q b)
 sorted-at (x ∷ l) u (suc i) zero p q h a b = absurd (omega arith)

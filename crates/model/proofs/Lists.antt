@@ -5,9 +5,9 @@ use native.Mathlib.Omega.{arith}
 use mathlib.Core.Path.{◌≡◌, refl, sym, ap, subst}
 use mathlib.Core.Bool.{Bool, true, false, not, cond, ◌&&◌, ◌||◌}
 use mathlib.Core.Logic.{◌⊎◌, inl, inr}
-use mathlib.Core.Option.{Option, none, some}
+use Rattle.std.specs.Prelude.{Option, Some, None, slice_get}
 use mathlib.Core.List.{List, [], ◌∷◌, ◌++◌, map, Memᴰ}
-use lib.ListN.{length, get_or, drop, replicate, get_elem?}
+use lib.ListN.{length, get_or, drop, replicate}
 use Rattle.model.specs.Steps.{keep}
 use Rattle.model.proofs.Every.{every, every-append, every-weaken}
 
@@ -92,17 +92,17 @@ module _ {A : Type 0} where
 -- ---- what stands at an index
 
 abbrev pub OptionIs : {A : Type 0} → (A → Type 0) → Option A → Type 0
-OptionIs P none = Unit {0}
-OptionIs P (some x) = P x
+OptionIs P None = Unit {0}
+OptionIs P (Some x) = P x
 
-pub index-is : {A : Type 0} (P : A → Type 0) (l : List A) (n : ℕ) → every P l → OptionIs (λ x. P x × (n < length l)) (get_elem? l n)
+pub index-is : {A : Type 0} (P : A → Type 0) (l : List A) (n : ℕ) → every P l → OptionIs (λ x. P x × (n < length l)) (slice_get l n)
 index-is P [] n u = tt
 index-is P (x ∷ l) zero u = (u.0, omega arith)
-index-is P (x ∷ l) (suc n) u = go (get_elem? l n) (index-is P l n u.1)
+index-is P (x ∷ l) (suc n) u = go (slice_get l n) (index-is P l n u.1)
   where
     go : (o : Option _) → OptionIs (λ x. P x × (n < length l)) o → OptionIs (λ x. P x × (suc n < suc (length l))) o
-    go none v = tt
-    go (some y) v = (v.0, omega arith)
+    go None v = tt
+    go (Some y) v = (v.0, omega arith)
 
 -- ---- tests, turned into facts
 
@@ -136,9 +136,19 @@ not-true false e = refl
 
 -- no test says both
 pub never : {A : Type 0} → true ≡ false → A
-never e = absurd (let z : ◌≡◌ {A = ℕ} 0 1 = cc in omega arith)
+never e = absurd cc
 
 -- what holds of either answer to a test
 pub either : {A : Type 0} (P : A → Type 0) (c : Bool) (x y : A) → (c ≡ true → P x) → (c ≡ false → P y) → P (cond c x y)
 either P true x y p q = p refl
 either P false x y p q = q refl
+
+-- ---- a list of four, by its places
+
+pub of-four : {A : Type 0} (xs : List A) (d : A) → length xs ≡ 4 → (get_or xs 0 d ∷ get_or xs 1 d ∷ get_or xs 2 d ∷ get_or xs 3 d ∷ []) ≡ xs
+of-four [] d l = absurd (omega arith)
+of-four (a ∷ []) d l = absurd (omega arith)
+of-four (a ∷ b ∷ []) d l = absurd (omega arith)
+of-four (a ∷ b ∷ c ∷ []) d l = absurd (omega arith)
+of-four (a ∷ b ∷ c ∷ e ∷ []) d l = refl
+of-four (a ∷ b ∷ c ∷ e ∷ f ∷ xs) d l = absurd (omega arith)

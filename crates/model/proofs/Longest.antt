@@ -9,18 +9,19 @@ use native.Mathlib.Nat.{add_assoc}
 use lib.Dec.{ltb, leb, eqb}
 use lib.ListN.{length, get_or, drop, replicate, length-append, length-drop}
 use lib.Seq.{get_or-drop, drop-drop, drop-append_seam}
-use borrow.Author.Tests.{le-ltb, lt-leb, ne_eqb}
+use borrow.Author.Tests.{le-ltb, lt-leb}
 use Rattle.model.specs.declared.Kind.{Kind}
 use Rattle.model.specs.declared.Kind.TheVariants.{NextSymbol, NextRule, RemovedHead, Comparison, BodyFact, EndOfTable}
 use Rattle.model.specs.declared.RuleShape.{RuleShape}
 use Rattle.model.specs.declared.Scan.{Scan}
-use Rattle.model.specs.declared.RecordStep.TheVariants.{Next, Done}
-use Rattle.model.specs.declared.Verdict.TheVariants.{Good}
+use Rattle.std.specs.Prelude.{Some, Ok}
+use Rattle.model.specs.declared.Behind.TheVariants.{Next, Done}
 use Rattle.model.specs.Records.{kind_of, size_of, out_of_order, headless, too_many}
 use Rattle.model.specs.Slots.{slot_by, slot_at}
 use Rattle.model.specs.Fields.{place_bad, arity_at, places_bad, top_of, expression_bad, arguments_bad, head_bad, guard_bad, body_fact_bad, bad_field}
 use Rattle.model.specs.Variables.{strange_slot, strange_expression, strange_guard, strange_fact, strange}
-use Rattle.model.specs.Reading.{no_shape, no_shapes, first_scan, behind, fields_of, ordered_of, tested_of, record_of, noted, ended, go_on, read_from, read_of}
+use Rattle.model.specs.Reading.{no_shape, no_shapes, first_scan, behind, fields_of, ordered_of, tested_of}
+use Rattle.model.specs.Reading.{known_of, record_of, noted, ended, go_on, read_from, read_of}
 use Rattle.wire.specs.Wire.{u32_at}
 use Rattle.model.proofs.Build.{Bytes}
 
@@ -58,26 +59,25 @@ longest_table = symbols_then 32 (rows 64)
 
 -- ---- a record that passes every test is read
 
-record-passes : (t : List ℕ) (s : Scan) (k : Kind) → kind_of (get_or t s.at 0) ≡ k → 1 ≤ size_of k → s.at + size_of k ≤ length t
+record-passes : (t : List ℕ) (s : Scan) (k : Kind) → kind_of (get_or t s.at 0) ≡ Some k → 1 ≤ size_of k → s.at + size_of k ≤ length t
     → out_of_order k s.stage ≡ false → headless k s.stage ≡ false → too_many k s ≡ false → bad_field t s k ≡ false → strange t s k ≡ false
-    → record_of t s ≡ behind s k
-unfolding record_of tested_of ordered_of fields_of
+    → record_of t s ≡ Ok (behind s k)
+unfolding record_of known_of tested_of ordered_of fields_of
 record-passes t s k kind some lies ordered headed few fields usual =
     let here : leb (length t) s.at ≡ false = lt-leb (length t) s.at (omega arith) in
-    let known : eqb (size_of k) 0 ≡ false = ne_eqb (size_of k) 0 (λ (e : size_of k ≡ 0). omega arith) in
     let whole : ltb (length t) (s.at + size_of k) ≡ false = le-ltb (length t) (s.at + size_of k) lies in
-    rw (here, kind, known, whole, ordered, headed, few, fields, usual)
+    rw (here, kind, whole, ordered, headed, few, fields, usual)
 
 -- ---- the table's verdict, whatever shapes were noted
 
 abbrev Passes : ℕ → List ℕ → Scan → Type 0
-Passes n t s = (shapes : List RuleShape) → (read_from n t s shapes).verdict ≡ Good
+Passes n t s = (shapes : List RuleShape) → (read_from n t s shapes).verdict ≡ Ok tt
 
-passes-next : (n : ℕ) (t : List ℕ) (s s' : Scan) → record_of t s ≡ Next s' → Passes n t s' → Passes (suc n) t s
+passes-next : (n : ℕ) (t : List ℕ) (s s' : Scan) → record_of t s ≡ Ok (Next s') → Passes n t s' → Passes (suc n) t s
 unfolding read_from go_on
 passes-next n t s s' e h shapes = rw e (h (noted shapes s'))
 
-passes-done : (n : ℕ) (t : List ℕ) (s : Scan) (p : ℕ) → record_of t s ≡ Done p → length t ≤ p → Passes (suc n) t s
+passes-done : (n : ℕ) (t : List ℕ) (s : Scan) (p : ℕ) → record_of t s ≡ Ok (Done p) → length t ≤ p → Passes (suc n) t s
 unfolding read_from go_on ended
 passes-done n t s p e h shapes = rw (e, le-ltb p (length t) h)
 
@@ -334,9 +334,9 @@ longest-rows : drop 0 longest_table ≡ symbols_then 32 (rows 64)
 unfolding longest_table
 longest-rows = refl
 
-longest-good : (read_of longest_table).verdict ≡ Good
+longest-good : (read_of longest_table).verdict ≡ Ok tt
 unfolding read_of
 longest-good = rw longest-long (all-read longest_table longest-arity longest-rows no_shapes)
 
-pub longest : (length longest_table ≡ 23681) × ((read_of longest_table).verdict ≡ Good)
+pub longest : (length longest_table ≡ 23681) × ((read_of longest_table).verdict ≡ Ok tt)
 longest = (longest-long, longest-good)

@@ -13,7 +13,7 @@ use Rattle.model.specs.Records.{kind_of, out_of_order}
 use Rattle.model.specs.Slots.{slot_by, slot_at, expression_at}
 use Rattle.model.specs.Fields.{place_bad, arity_at, places_bad, top_of, expression_bad, arguments_bad, head_bad, guard_bad, body_fact_bad, bad_field}
 use Rattle.model.specs.Variables.{is_variable, head_has, in_heads, strange_slot, strange_expression, strange_guard, strange_fact, strange}
-use Rattle.model.specs.Reading.{behind, fields_of, ordered_of, tested_of, record_of, noted, ended, go_on, read_from, read_of}
+use Rattle.model.specs.Reading.{behind, fields_of, ordered_of, tested_of, known_of, record_of, noted, ended, go_on, read_from, read_of}
 use Rattle.model.specs.Goal.{later_bad, later_places_bad, goal_fact_bad, facts_verdict, goal_verdict}
 use Rattle.model.specs.Calls.{verdict_result, check_of, run_of}
 use Rattle.model.proofs.Build.{Bytes, ◌then◌, Term, var, num, Form, only, op, symbol, rule, kept, removed, test, adds, failing, finish, fact, times}
@@ -262,7 +262,7 @@ unfolding told stage opened stages along kinds one limits spot put spoiled cross
     first used_as square arities heads expressions headed guards body_facts goals goal_facts matrix same numbers_of ran agrees all_agree u32_at signed_of
     bits_of bytes4 kind_of out_of_order slot_by slot_at expression_at place_bad arity_at places_bad top_of expression_bad arguments_bad head_bad guard_bad
     body_fact_bad bad_field is_variable head_has in_heads strange_slot strange_expression strange_guard strange_fact strange behind fields_of ordered_of
-    tested_of
+    tested_of known_of
     record_of noted ended go_on read_from read_of later_bad later_places_bad goal_fact_bad facts_verdict goal_verdict verdict_result check_of run_of
 all-told = tt
 

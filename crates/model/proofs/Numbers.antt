@@ -11,7 +11,9 @@ use mathlib.Core.List.{List, [], ◌∷◌, ◌++◌, Memᴰ}
 use lib.Dec.{T, eqb, ltb}
 use lib.ListN.{replicate, get_or}
 use borrow.Author.Tests.{eqb-true, ltb-true}
-use Rattle.model.specs.declared.Verdict.TheVariants.{Refused}
+use Rattle.std.specs.Prelude.{Err}
+use Rattle.model.specs.declared.Refusal.{Refusal}
+use Rattle.model.specs.Refusals.{number_of}
 use Rattle.model.specs.Reading.{read_of}
 use Rattle.model.specs.Table.{table_of}
 use Rattle.model.specs.Steps.{start}
@@ -22,7 +24,7 @@ use Rattle.model.proofs.Lists.{every-mem, and-left, and-right}
 use Rattle.model.proofs.Good.{refusal-small}
 use Rattle.model.proofs.Ranges.{AreBytes}
 use Rattle.model.proofs.Endings.{run-ends}
-use Rattle.model.proofs.Results.{Refusal, call-cases}
+use Rattle.model.proofs.Results.{Refuses, call-cases}
 use Rattle.model.proofs.Build.{Bytes}
 use Rattle.model.proofs.Cases.{Case, runs, checks, weighs, cases, same, numbers_of, ran, agrees, all_agree, worked_runs}
 use Rattle.model.proofs.Cases.{run_numbers, are_bytes, gives, some_gives, all_given, given_numbers}
@@ -59,12 +61,12 @@ among i (suc k) n l h = go (λ m. among (suc i) k n m (omega arith)) (eq-or-lt_o
 ending : (n : ℕ) → n ≤ 7 → Memᴰ n run_numbers
 ending n l = Memᴰ.append_left {s = up_from 0 8} (up_from 16 8 ++ up_from 32 5) (among 0 8 n (omega arith) (omega arith))
 
-refusing : (t : List ℕ) (n p : ℕ) → Refusal t n p → Memᴰ n run_numbers
-refusing t n p r = Memᴰ.append_right (up_from 0 8) (go r.sort)
+refusing : (t : List ℕ) (r : Refusal) → Refuses t r → Memᴰ (number_of r.reason) run_numbers
+refusing t r k = Memᴰ.append_right (up_from 0 8) (go k.sort)
   where
-    go : ((read_of t).verdict ≡ Refused n p) ⊎ (32 ≤ n) → Memᴰ n (up_from 16 8 ++ up_from 32 5)
-    go (inl e) = Memᴰ.append_left (up_from 32 5) (among 16 8 n r.low (omega (arith, (refusal-small t n p e).high)))
-    go (inr l) = Memᴰ.append_right (up_from 16 8) (among 32 5 n l (omega (arith, r.high)))
+    go : ((read_of t).verdict ≡ Err r) ⊎ (32 ≤ number_of r.reason) → Memᴰ (number_of r.reason) (up_from 16 8 ++ up_from 32 5)
+    go (inl e) = Memᴰ.append_left (up_from 32 5) (among 16 8 (number_of r.reason) k.low (omega (arith, (refusal-small t r e).high)))
+    go (inr l) = Memᴰ.append_right (up_from 16 8) (among 32 5 (number_of r.reason) l (omega (arith, k.high)))
 
 -- ---- each of them
 
@@ -79,7 +81,7 @@ are-bytes (b ∷ bs) e = (ltb-true b 256 (and-left (ltb b 256) (are_bytes bs) e)
 
 same-first : (x : ℕ) (xs ys : List ℕ) → same (x ∷ xs) ys ≡ true → x ≡ get_or ys 0 0
 unfolding same
-same-first x xs [] e = let z : ◌≡◌ {A = ℕ} 0 1 = cc in absurd (omega arith)
+same-first x xs [] e = absurd cc
 same-first x xs (y ∷ ys) e = eqb-true x y (and-left (eqb x y) (same xs ys) e)
 
 one-gives : (n : ℕ) (c : Case) → agrees c ≡ true → gives n c ≡ true → GivenBy n
@@ -98,12 +100,12 @@ one-gives n (runs t g limit room ns a) w e =
       number = same-first (run_of t g limit (replicate room 165)).result.number _ ns (and-left _ _ w)
           ∙ eqb-true (get_or ns 0 0) n (and-left (eqb (get_or ns 0 0) n) _ e);
     }
-one-gives n (checks t ns) w e = let z : ◌≡◌ {A = ℕ} 0 1 = cc in absurd (omega arith)
-one-gives n (weighs t v g ns) w e = let z : ◌≡◌ {A = ℕ} 0 1 = cc in absurd (omega arith)
+one-gives n (checks t ns) w e = absurd cc
+one-gives n (weighs t v g ns) w e = absurd cc
 
 some-gives : (n : ℕ) (cs : List Case) → all_agree cs ≡ true → some_gives n cs ≡ true → GivenBy n
 unfolding all_agree some_gives
-some-gives n [] w e = let z : ◌≡◌ {A = ℕ} 0 1 = cc in absurd (omega arith)
+some-gives n [] w e = absurd cc
 some-gives n (c ∷ cs) w e = go (some-gives n cs (and-right (agrees c) (all_agree cs) w)) (gives n c) refl e
   where
     go : (some_gives n cs ≡ true → GivenBy n) → (b : Bool) → gives n c ≡ b → (b || some_gives n cs) ≡ true → GivenBy n

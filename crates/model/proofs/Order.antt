@@ -7,7 +7,7 @@ use native.Mathlib.Omega.{arith}
 use mathlib.Core.Path.{◌≡◌, refl, sym, ◌∙◌, ap, ap₂}
 use mathlib.Core.Logic.{◌⊎◌, inl, inr}
 use mathlib.Core.Bool.{Bool, true, false}
-use mathlib.Core.Option.{Option, none, some}
+use Rattle.std.specs.Prelude.{Option, Some, None}
 use mathlib.Core.List.{List, [], ◌∷◌, ◌++◌, map, append_assoc, append-nil}
 use lib.Dec.{eqb}
 use lib.ListN.{length, get_or}
@@ -19,7 +19,8 @@ use Rattle.model.specs.declared.HeadPlace.{HeadPlace}
 use Rattle.model.specs.Table.{Head, Rule, heads}
 use Rattle.model.specs.Guards.{unbound}
 use Rattle.model.specs.Matching.{match_head}
-use Rattle.model.specs.Search.{Fired, Found, nothing, undefined_guard, applies, or_else, first_of, and_then, stored_fact, no_head, complete}
+use Rattle.model.specs.declared.Fired.{Fired}
+use Rattle.model.specs.Search.{Found, nothing, undefined_guard, applies, or_else, first_of, and_then, stored_fact, no_head, complete}
 use Rattle.model.specs.Search.{candidate, search, from_active, with_active, first_instance}
 use Rattle.model.proofs.Every.{every, every-append, every-weaken, every-map}
 use Rattle.model.proofs.Kept.{Rising}
@@ -37,8 +38,8 @@ collect f [] = []
 collect f (s ∷ ss) = f s ++ collect f ss
 
 abbrev if_some : {A : Type 0} → Option A → (A → List Match) → List Match
-if_some none f = []
-if_some (some c) f = f c
+if_some None f = []
+if_some (Some c) f = f c
 
 -- ---- the order
 
@@ -179,8 +180,8 @@ module _ (store : List Stored) (history : List Fired) (p : HeadPlace) (r : Rule)
           → (s : Stored) (o : Option Binding)
           → and_then o (λ c. search store history p r active hs (chosen ++ (s.id ∷ [])) c) ≡ decide chosen
           (if_some o (λ c. map (led s.id) (matches hs (chosen ++ (s.id ∷ [])) c)))
-      one ih s none = refl
-      one ih s (some c) = ih (chosen ++ (s.id ∷ [])) c ∙ sym (decide-led chosen s.id (matches hs (chosen ++ (s.id ∷ [])) c))
+      one ih s None = refl
+      one ih s (Some c) = ih (chosen ++ (s.id ∷ [])) c ∙ sym (decide-led chosen s.id (matches hs (chosen ++ (s.id ∷ [])) c))
 
       go : (x : Bool) → ((chosen : List FactId) (b : Binding) → search store history p r active hs chosen b ≡ decide chosen (matches hs chosen b))
           → ◌≡◌ {A = Found}
@@ -205,8 +206,8 @@ module _ (store : List Stored) (history : List Fired) (p : HeadPlace) (r : Rule)
     where
       one : ((chosen : List FactId) (b : Binding) → Ascending (matches hs chosen b)) → (s : Stored) (o : Option Binding)
           → LedBy s.id (if_some o (λ c. map (led s.id) (matches hs (chosen ++ (s.id ∷ [])) c)))
-      one ih s none = record { ascending = tt; leading = tt }
-      one ih s (some c) = led-ascending s.id (matches hs (chosen ++ (s.id ∷ [])) c) (ih (chosen ++ (s.id ∷ [])) c)
+      one ih s None = record { ascending = tt; leading = tt }
+      one ih s (Some c) = led-ascending s.id (matches hs (chosen ++ (s.id ∷ [])) c) (ih (chosen ++ (s.id ∷ [])) c)
 
       go : (x : Bool) → ((chosen : List FactId) (b : Binding) → Ascending (matches hs chosen b))
           → Ascending (elim x [
@@ -227,22 +228,22 @@ module _ (store : List Stored) (history : List Fired) (p : HeadPlace) (r : Rule)
   first-decides = go (stored_fact active store)
     where
       bound : (o : Option Binding) → from_active store history p r active o ≡ decide [] (if_some o (matches (heads r) []))
-      bound none = refl
-      bound (some b) = search-decides (heads r) [] b
+      bound None = refl
+      bound (Some b) = search-decides (heads r) [] b
 
       go : (o : Option Fact) → with_active store history p r active o ≡ decide []
           (if_some o (λ f. if_some (match_head (get_or (heads r) p.head no_head) f unbound) (matches (heads r) [])))
-      go none = refl
-      go (some f) = bound (match_head (get_or (heads r) p.head no_head) f unbound)
+      go None = refl
+      go (Some f) = bound (match_head (get_or (heads r) p.head no_head) f unbound)
 
   pub all-ascend : (lo hi : ℕ) → Rising lo hi store → Ascending all_matches
   unfolding all_matches
   all-ascend lo hi u = go (stored_fact active store)
     where
       bound : (o : Option Binding) → Ascending (if_some o (matches (heads r) []))
-      bound none = tt
-      bound (some b) = matches-ascend lo hi u (heads r) [] b
+      bound None = tt
+      bound (Some b) = matches-ascend lo hi u (heads r) [] b
 
       go : (o : Option Fact) → Ascending (if_some o (λ f. if_some (match_head (get_or (heads r) p.head no_head) f unbound) (matches (heads r) [])))
-      go none = tt
-      go (some f) = bound (match_head (get_or (heads r) p.head no_head) f unbound)
+      go None = tt
+      go (Some f) = bound (match_head (get_or (heads r) p.head no_head) f unbound)

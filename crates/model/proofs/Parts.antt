@@ -19,7 +19,7 @@ use Rattle.model.specs.declared.Slot.TheVariants.{Unused, Constant, Variable, Ba
 use Rattle.model.specs.declared.Expression.{Expression}
 use Rattle.model.specs.declared.RuleNumber.{RuleNumber}
 use Rattle.model.specs.declared.RuleShape.{RuleShape}
-use Rattle.model.specs.declared.Verdict.TheVariants.{Good}
+use Rattle.std.specs.Prelude.{Ok}
 use Rattle.model.specs.Slots.{slot_by, slot_at, expression_at}
 use Rattle.model.specs.Fields.{place_bad, arity_at, places_bad, top_of, expression_bad, arguments_bad, head_bad, guard_bad, body_fact_bad}
 use Rattle.model.specs.Variables.{is_variable, head_has, in_heads, strange_slot, strange_expression, strange_guard, strange_fact}
@@ -424,7 +424,7 @@ every-whole t symbols p [] q w = tt
 every-whole t symbols p (r ∷ rs) q w = ((w.1.0, w.1.1), every-whole t symbols w.1.0 rs q w.1.2)
 
 -- every rule of a good table is made of good parts
-pub every-parts : (t : List ℕ) → (read_of t).verdict ≡ Good → every (GoodParts t (table_of t).symbols) (table_of t).rules
+pub every-parts : (t : List ℕ) → (read_of t).verdict ≡ Ok tt → every (GoodParts t (table_of t).symbols) (table_of t).rules
 every-parts t e =
     let w = whole-table t e in
     let n : ℕ = (read_of t).symbols in
@@ -437,7 +437,7 @@ every-parts t e =
     (every-both (GoodRule t n) W rs (every-shape t (good-table t e)) (every-whole t n (2 * n) rs w.last w.rules))))
 
 -- the same by number; where there is no rule of that number, there is no part
-pub rule-parts : (t : List ℕ) → (read_of t).verdict ≡ Good → (n : RuleNumber) → GoodParts t (table_of t).symbols (rule_at (table_of t) n)
+pub rule-parts : (t : List ℕ) → (read_of t).verdict ≡ Ok tt → (n : RuleNumber) → GoodParts t (table_of t).symbols (rule_at (table_of t) n)
 unfolding rule_at
 rule-parts t e n =
     every-get_d (GoodParts t (table_of t).symbols) (table_of t).rules n.0 no_rule (every-parts t e)
@@ -482,7 +482,7 @@ goal-fact-is t symbols g p d u = record {
     at : (k q : ℕ) → k < 4 → p + 2 + 4 * k ≡ q → arity_at t (get_or g (p + 1) 0) ≤ k → i32_at g q ≡ pos 0
     at k q m e n = word-zero g q (rw e at (u k m n))
 
-pub every-goal-fact : (t : List ℕ) (symbols : ℕ) (g : List ℕ) → goal_verdict t symbols g ≡ Good → every (GoodGoalFact t symbols) (goal_of g)
+pub every-goal-fact : (t : List ℕ) (symbols : ℕ) (g : List ℕ) → goal_verdict t symbols g ≡ Ok tt → every (GoodGoalFact t symbols) (goal_of g)
 every-goal-fact t symbols g e =
     let w = whole-goal t symbols g e in
     every-by (GoodGoalFact t symbols) (goal_of g) (fact_at g 0) (λ i l.

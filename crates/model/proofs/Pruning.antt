@@ -4,10 +4,10 @@ use Prim.Native.Nat.{ℕ, zero, suc, ◌-◌, ◌≤◌, ◌<◌}
 use native.Mathlib.Omega.{arith}
 use mathlib.Core.Path.{◌≡◌, refl, sym, ◌∙◌, ap, ap₂, subst}
 use mathlib.Core.Bool.{Bool, true, false, not, ◌&&◌, ◌||◌}
-use mathlib.Core.Option.{Option, none, some}
+use Rattle.std.specs.Prelude.{Option, Some, None, slice_get}
 use mathlib.Core.List.{List, [], ◌∷◌, ◌++◌, Memᴰ}
 use lib.Dec.{eqb, leb, ltb}
-use lib.ListN.{length, get_or, get_elem?}
+use lib.ListN.{length, get_or}
 use borrow.Author.Tests.{ne_eqb}
 use Rattle.model.specs.declared.FactId.{FactId}
 use Rattle.model.specs.declared.RuleNumber.{RuleNumber}
@@ -22,7 +22,8 @@ use Rattle.model.specs.Limits.{store_room, stack_room, history_room}
 use Rattle.model.specs.Table.{Head, Rule, Table, heads, rule_at, places}
 use Rattle.model.specs.Guards.{unbound, guard_value}
 use Rattle.model.specs.Matching.{match_head}
-use Rattle.model.specs.Search.{same_id, is_among, nobody, Fired, four, fired_of, same_ids, same_fired, in_history, Found, nothing, undefined_guard}
+use Rattle.model.specs.declared.Fired.{Fired}
+use Rattle.model.specs.Search.{same_id, is_among, nobody, four, fired_of, same_ids, same_fired, in_history, Found, nothing, undefined_guard}
 use Rattle.model.specs.Search.{applies, unless_known, or_else, first_of, and_then, stored_fact, no_head, complete, candidate, search, from_active}
 use Rattle.model.specs.Search.{with_active, first_instance}
 use Rattle.model.specs.Steps.{State, start, body_entries, keep, gone, without, names, pruned, remembered, prunes, activated, advanced, dropped}
@@ -123,8 +124,8 @@ first_of-eq f g [] h = refl
 first_of-eq f g (s ∷ ss) h = ap₂ (λ (x : Found) (y : Found). or_else x y) (h s (Memᴰ.head refl)) (first_of-eq f g ss (λ r m. h r (Memᴰ.tail m)))
 
 and_then-eq : (o : Option Binding) (f g : Binding → Found) → ((c : Binding) → f c ≡ g c) → and_then o f ≡ and_then o g
-and_then-eq none f g h = refl
-and_then-eq (some c) f g h = h c
+and_then-eq None f g h = refl
+and_then-eq (Some c) f g h = h c
 
 module _ (gone : List FactId) (all : List Fired) (store : List Stored) (nobody_live : Live gone nobody) (live : every (λ (s : Stored). Live gone s.id) store)
     (p : HeadPlace) (r : Rule) (active : FactId) where
@@ -160,13 +161,13 @@ module _ (gone : List FactId) (all : List Fired) (store : List Stored) (nobody_l
   instance-eq = go (stored_fact active store) (stored-is active store)
     where
       bound : Live gone active → (o : Option Binding) → from_active store (pruned gone all) p r active o ≡ from_active store all p r active o
-      bound a none = refl
-      bound a (some b) = search-eq a (heads r) [] b tt
+      bound a None = refl
+      bound a (Some b) = search-eq a (heads r) [] b tt
 
       go : (o : Option Fact) → OptionIs (λ f. Memᴰ (record { id = active; fact = f }) store) o
           → with_active store (pruned gone all) p r active o ≡ with_active store all p r active o
-      go none m = refl
-      go (some f) m =
+      go None m = refl
+      go (Some f) m =
           bound (every-mem (λ (s : Stored). Live gone s.id) store live (record { id = active; fact = f }) m)
           (match_head (get_or (heads r) p.head no_head) f unbound)
 
@@ -295,8 +296,8 @@ module _ (t : Table) (st : State) (all : List Fired) (old : List FactId) (k : He
       → (o : Option (List Entry))
       → Follows (with_body prunes t st e es p chosen o) (with_body keeps_all t (keeping st all) e es p chosen o)
   unfolding fired now
-  body-follows p i chosen b c none = λ q. refl
-  body-follows p i chosen b c (some body) =
+  body-follows p i chosen b c None = λ q. refl
+  body-follows p i chosen b c (Some body) =
       let r : Rule = rule_at t p.rule in
       let stack : List Entry = body ++ pop_if (is_removed r p.head) e es in
       let h = fired-held p r i chosen b c r.removed stack in
@@ -319,9 +320,9 @@ module _ (t : Table) (st : State) (all : List Fired) (old : List FactId) (k : He
 
   place-follows : (i : FactId) (j : ℕ) (o : Option HeadPlace) → Follows (at_place prunes t st e es i j o) (at_place keeps_all t (keeping st all) e es i j o)
   unfolding dropped
-  place-follows i j none = record { all = all; gone = old; held = record { begun = k.begun; left = k.left; stays = k.stays; old = k.old }; same = refl }
-  place-follows i j (some p) =
-      subst (λ (x : Found). Follows (at_place prunes t st e es i j (some p)) (with_found keeps_all t (keeping st all) e es i j p x))
+  place-follows i j None = record { all = all; gone = old; held = record { begun = k.begun; left = k.left; stays = k.stays; old = k.old }; same = refl }
+  place-follows i j (Some p) =
+      subst (λ (x : Found). Follows (at_place prunes t st e es i j (Some p)) (with_found keeps_all t (keeping st all) e es i j p x))
       (same-instance p (rule_at t p.rule) i)
       (found-follows i j p (first_instance st.store st.history p (rule_at t p.rule) i) (instance-is st.store st.history p (rule_at t p.rule) i))
 
@@ -349,7 +350,7 @@ module _ (t : Table) (st : State) (all : List Fired) (old : List FactId) (k : He
   step-follows : (it : Item) → Follows (step_item t st e es it) (step_with keeps_all t (keeping st all) e es it)
   unfolding step_with
   step-follows (Waiting f) = activate-follows f (ltb (length st.store) store_room)
-  step-follows (Active i j) = place-follows i j.0 (get_elem? (places t e.symbol) (j.0 - 1))
+  step-follows (Active i j) = place-follows i j.0 (slice_get (places t e.symbol) (j.0 - 1))
   step-follows Fail = refl
 
 -- ---- the two runs

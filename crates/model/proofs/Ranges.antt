@@ -4,14 +4,12 @@ use Prim.Native.Nat.{ℕ, zero, suc, ◌+◌, ◌-◌, ◌<◌}
 use native.Mathlib.Omega.{arith}
 use mathlib.Core.Path.{◌≡◌, refl, subst}
 use mathlib.Core.Bool.{Bool, true, false, cond}
-use mathlib.Core.Option.{Option, none, some}
+use Rattle.std.specs.Prelude.{Option, Some, None}
 use mathlib.Core.List.{List, [], ◌∷◌}
 use lib.IntN.{ℤ, pos, negsuc, ◌-ℤ◌}
 use lib.Dec.{ltb, eqb, le→leb}
-use lib.ListN.{get_or, take}
+use lib.ListN.{length, get_or, take}
 use borrow.Author.Tests.{ltb-true, ltb-false}
-use Rattle.numbers.specs.declared.Value.{Value}
-use Rattle.numbers.specs.declared.Value.TheVariants.{Number, Undefined}
 use Rattle.numbers.specs.Numbers.{equal, evaluate}
 use Rattle.numbers.proofs.Laws.{InRange, Ranged, ranged-number, ranged-undefined, evaluate-ranged}
 use Rattle.model.specs.declared.FactId.{FactId}
@@ -30,8 +28,9 @@ use Rattle.model.specs.Table.{items_from, items_start, rule_of, table_by, table_
 use Rattle.model.specs.Reading.{read_of}
 use Rattle.model.specs.Goal.{fact_at, facts_from, goal_of}
 use Rattle.model.specs.Guards.{unbound, variable_value, slot_value, expression_value}
-use Rattle.model.specs.Matching.{bound_if, with_variable, match_variable, match_slot, and_slot, match_slots, arguments, match_head}
-use Rattle.model.specs.Search.{Fired, no_head, first_instance}
+use Rattle.model.specs.Matching.{bound_if, match_value, with_variable, match_variable, match_slot, and_slot, match_slots, arguments, match_head}
+use Rattle.model.specs.declared.Fired.{Fired}
+use Rattle.model.specs.Search.{no_head, first_instance}
 use Rattle.model.specs.Steps.{cons_defined, argument_values, fact_of}
 use Rattle.model.proofs.Every.{every, every-set, every-map}
 use Rattle.model.proofs.Lists.{every-get_d, every-mem, every-replicate, OptionIs}
@@ -44,6 +43,7 @@ zero-in-range = record { low = record { le = tt }; high = record { le = tt } }
 -- ---- facts, slots, expressions and tables whose numbers lie in the range
 
 pub record FactRanged (f : Fact) : Type 0 where
+  pub four : length f.arguments ≡ 4
   pub each : every InRange (arguments f)
 
 abbrev pub SlotRanged : Slot → Type 0
@@ -66,7 +66,7 @@ TableRanged t = every (λ (r : Rule). every ItemRanged r.body) t.rules
 -- ---- a binding that comes from such facts
 
 pub record BindingRanged (b : Binding) : Type 0 where
-  pub each : every InRange b.values
+  pub each : every Ranged b.values
 
 bound-ranged : (x : Bool) (b : Binding) → BindingRanged b → OptionIs BindingRanged (bound_if x b)
 bound-ranged true b k = k
@@ -74,20 +74,20 @@ bound-ranged false b k = tt
 
 variable-ranged : (b : Binding) (v : ℕ) (z : ℤ) → BindingRanged b → InRange z → OptionIs BindingRanged (match_variable b v z)
 unfolding match_variable with_variable
-variable-ranged b v z k r = go (ltb v 16) (get_or b.bound v false)
+variable-ranged b v z k r = go (ltb v 16) (get_or b.values v None)
   where
-    go : (y x : Bool) → OptionIs BindingRanged (cond y (cond x (bound_if (equal (get_or b.values v (pos 0)) z) b) (some (with_variable b v z))) none)
-    go true true = bound-ranged (equal (get_or b.values v (pos 0)) z) b k
-    go true false = record { each = every-set InRange b.values v z k.each r }
-    go false x = tt
+    go : (y : Bool) (o : Option ℤ) → OptionIs BindingRanged (cond y (match_value o b v z) None)
+    go true (Some x) = bound-ranged (equal x z) b k
+    go true None = record { each = every-set Ranged b.values v (Some z) k.each (ranged-number r) }
+    go false o = tt
 
 slot-ranged : (s : Slot) (z : ℤ) (o : Option Binding) → InRange z → OptionIs BindingRanged o → OptionIs BindingRanged (and_slot s z o)
 unfolding and_slot match_slot
-slot-ranged s z none r k = tt
-slot-ranged Unused z (some b) r k = k
-slot-ranged (Constant c) z (some b) r k = bound-ranged (equal c z) b k
-slot-ranged (Variable v) z (some b) r k = variable-ranged b v z k r
-slot-ranged Bad z (some b) r k = tt
+slot-ranged s z None r k = tt
+slot-ranged Unused z (Some b) r k = k
+slot-ranged (Constant c) z (Some b) r k = bound-ranged (equal c z) b k
+slot-ranged (Variable v) z (Some b) r k = variable-ranged b v z k r
+slot-ranged Bad z (Some b) r k = tt
 
 slots-ranged : (ss : List Slot) (zs : List ℤ) (o : Option Binding) → every InRange zs → OptionIs BindingRanged o → OptionIs BindingRanged (match_slots ss zs o)
 unfolding match_slots
@@ -99,12 +99,12 @@ head-ranged : (h : Head) (f : Fact) (b : Binding) → FactRanged f → BindingRa
 unfolding match_head
 head-ranged h f b r k = go (same_symbol h.symbol f.symbol)
   where
-    go : (x : Bool) → OptionIs BindingRanged (cond x (match_slots h.slots (arguments f) (some b)) none)
-    go true = slots-ranged h.slots (arguments f) (some b) r.each k
+    go : (x : Bool) → OptionIs BindingRanged (cond x (match_slots h.slots (arguments f) (Some b)) None)
+    go true = slots-ranged h.slots (arguments f) (Some b) r.each k
     go false = tt
 
 -- an outcome that is some value has its property
-some-is : {A : Type 0} (P : A → Type 0) (o : Option A) (x : A) → o ≡ some x → OptionIs P o → P x
+some-is : {A : Type 0} (P : A → Type 0) (o : Option A) (x : A) → o ≡ Some x → OptionIs P o → P x
 some-is P o x e u = subst (OptionIs P) e u
 
 pub found-ranged : (store : List Stored) (history : List Fired) (p : HeadPlace) (r : Rule) (active : FactId)
@@ -118,7 +118,7 @@ found-ranged store history p r active u =
     (head-ranged h s.fact b (every-mem (λ (s : Stored). FactRanged s.fact) store u s m.stored) k))
     (λ f b m e. some-is BindingRanged (match_head (get_or (heads r) p.head no_head) f unbound) b e
     (head-ranged (get_or (heads r) p.head no_head) f unbound (every-mem (λ (s : Stored). FactRanged s.fact) store u (record { id = active; fact = f }) m)
-    (record { each = every-replicate InRange 16 (pos 0) zero-in-range })))
+    (record { each = every-replicate Ranged 16 None ranged-undefined })))
 
 -- ---- what a body's arguments come to
 
@@ -126,12 +126,11 @@ value-ranged : (b : Binding) (s : Slot) → BindingRanged b → SlotRanged s →
 unfolding slot_value variable_value
 value-ranged b Unused k r = ranged-number zero-in-range
 value-ranged b (Constant z) k r = ranged-number r
-value-ranged b (Variable v) k r = go (ltb v 16) (get_or b.bound v false)
+value-ranged b (Variable v) k r = go (ltb v 16)
   where
-    go : (y x : Bool) → Ranged (cond y (cond x (Number (get_or b.values v (pos 0))) Undefined) Undefined)
-    go true true = ranged-number (every-get_d InRange b.values v (pos 0) k.each zero-in-range)
-    go true false = ranged-undefined
-    go false x = ranged-undefined
+    go : (y : Bool) → Ranged (cond y (get_or b.values v None) None)
+    go true = every-get_d Ranged b.values v None k.each ranged-undefined
+    go false = ranged-undefined
 value-ranged b Bad k r = ranged-undefined
 
 pub arguments-ranged : (b : Binding) (es : List Expression) → BindingRanged b → every ExpressionRanged es → OptionIs (every InRange) (argument_values b es)
@@ -141,13 +140,13 @@ arguments-ranged b (e ∷ es) k r =
     go (evaluate e.operation (slot_value b e.left) (slot_value b e.right)) (argument_values b es)
     (evaluate-ranged e.operation (slot_value b e.left) (slot_value b e.right) (value-ranged b e.left k r.0.left)) (arguments-ranged b es k r.1)
   where
-    go : (v : Value) (o : Option (List ℤ)) → Ranged v → OptionIs (every InRange) o → OptionIs (every InRange) (cons_defined v o)
-    go Undefined o q u = tt
-    go (Number z) none q u = tt
-    go (Number z) (some zs) q u = (q.number z refl, u)
+    go : (v : Option ℤ) (o : Option (List ℤ)) → Ranged v → OptionIs (every InRange) o → OptionIs (every InRange) (cons_defined v o)
+    go None o q u = tt
+    go (Some z) None q u = tt
+    go (Some z) (Some zs) q u = (q.number z refl, u)
 
 pub fact-ranged : (s : Symbol) (zs : List ℤ) → every InRange zs → FactRanged (fact_of s zs)
-fact-ranged s zs u = record { each = (at 0, (at 1, (at 2, (at 3, tt)))) }
+fact-ranged s zs u = record { four = refl; each = (at 0, (at 1, (at 2, (at 3, tt)))) }
   where
     at : (i : ℕ) → InRange (get_or zs i (pos 0))
     at i = every-get_d InRange zs i (pos 0) u zero-in-range
@@ -230,7 +229,7 @@ table-ranged t u =
 facts-ranged : (g : List ℕ) → AreBytes g → (p n : ℕ) → every FactRanged (facts_from g p n)
 unfolding facts_from fact_at
 facts-ranged g u p zero = tt
-facts-ranged g u p (suc n) = (record { each = (at (p + 2), (at (p + 6), (at (p + 10), (at (p + 14), tt)))) }, facts-ranged g u (p + 18) n)
+facts-ranged g u p (suc n) = (record { four = refl; each = (at (p + 2), (at (p + 6), (at (p + 10), (at (p + 14), tt)))) }, facts-ranged g u (p + 18) n)
   where
     at : (q : ℕ) → InRange (i32_at g q)
     at q = word-in-range g u q

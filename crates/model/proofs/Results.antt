@@ -10,8 +10,11 @@ use lib.Dec.{leb}
 use lib.ListN.{length, length-append, length-drop}
 use borrow.Author.Tests.{leb-true}
 use Rattle.model.specs.declared.Stored.{Stored}
-use Rattle.model.specs.declared.Verdict.{Verdict}
-use Rattle.model.specs.declared.Verdict.TheVariants.{Good, Refused}
+use Rattle.model.specs.declared.Reason.{Reason}
+use Rattle.model.specs.declared.Reason.TheVariants.{StepLimit, ShortAnswer}
+use Rattle.model.specs.declared.Refusal.{Refusal}
+use Rattle.std.specs.Prelude.{Ok, Err}
+use Rattle.model.specs.Refusals.{Verdict, number_of}
 use Rattle.model.specs.Limits.{store_room, greatest_limit, least_answer}
 use Rattle.model.specs.Reading.{read_of}
 use Rattle.model.specs.Table.{table_of}
@@ -21,7 +24,7 @@ use Rattle.model.specs.Run.{Ended, run}
 use Rattle.model.specs.Goal.{goal_verdict, goal_of}
 use Rattle.model.specs.Answer.{stored_bytes, answer_bytes, answered}
 use Rattle.model.specs.Calls.{RunOutput, refused_run, answer_if, output_of, if_room, if_limit, if_goal, if_table, run_of}
-use Rattle.model.proofs.Good.{TableRefusal, GoalRefusal, refusal-small, goal-places, good-table, good-goal}
+use Rattle.model.proofs.Good.{refusal-small, goal-places, good-table, good-goal}
 use Rattle.model.proofs.Decoded.{rules-few, goal-few}
 use Rattle.model.proofs.Ranges.{AreBytes, table-ranged, goal-ranged}
 use Rattle.model.proofs.Endings.{place-few}
@@ -32,42 +35,45 @@ use Rattle.wire.specs.Wire.{bytes4}
 
 -- what is known of a run that is not refused
 pub record Runs (t g : List ℕ) (limit : ℕ) (buffer : List ℕ) : Type 0 where
-  pub table : (read_of t).verdict ≡ Good
-  pub goal : goal_verdict t (read_of t).symbols g ≡ Good
+  pub table : (read_of t).verdict ≡ Ok tt
+  pub goal : goal_verdict t (read_of t).symbols g ≡ Ok tt
   pub limited : limit ≤ greatest_limit
   pub roomy : least_answer ≤ length buffer
 
 -- what is known of a refusal: it is the table's, or one of 32 to 36
-pub record Refusal (t : List ℕ) (n p : ℕ) : Type 0 where
-  pub low : 16 ≤ n
-  pub high : n ≤ 36
-  pub sort : ((read_of t).verdict ≡ Refused n p) ⊎ (32 ≤ n)
-  pub near : p ≤ 23681
+pub record Refuses (t : List ℕ) (r : Refusal) : Type 0 where
+  pub low : 16 ≤ number_of r.reason
+  pub high : number_of r.reason ≤ 36
+  pub sort : ((read_of t).verdict ≡ Err r) ⊎ (32 ≤ number_of r.reason)
+  pub near : r.place ≤ 23681
 
 module _ (P : RunOutput → Type 0) (t g : List ℕ) (limit : ℕ) (buffer : List ℕ)
-    (refuses : (n p : ℕ) → Refusal t n p → P (refused_run n p buffer))
+    (refuses : (r : Refusal) → Refuses t r → P (refused_run r buffer))
     (goes : Runs t g limit buffer → P (output_of (run (table_of t) limit (start (goal_of g))) buffer)) where
-  module _ (a : (read_of t).verdict ≡ Good) where
-    module _ (b : goal_verdict t (read_of t).symbols g ≡ Good) where
+  own : (n : Reason) → Refuses t (record { reason = n; place = 0 }) → P (refused_run (record { reason = n; place = 0 }) buffer)
+  own n = refuses (record { reason = n; place = 0 })
+
+  module _ (a : (read_of t).verdict ≡ Ok tt) where
+    module _ (b : goal_verdict t (read_of t).symbols g ≡ Ok tt) where
       room-case : limit ≤ greatest_limit → (x : Bool) → leb least_answer (length buffer) ≡ x → P (if_room t g limit buffer x)
       room-case l true q = goes (record { table = a; goal = b; limited = l; roomy = leb-true least_answer (length buffer) q })
-      room-case l false q = refuses 36 0 (record { low = omega arith; high = omega arith; sort = inr (omega arith); near = omega arith })
+      room-case l false q = own ShortAnswer (record { low = omega arith; high = omega arith; sort = inr (omega arith); near = omega arith })
 
       limit-case : (x : Bool) → leb limit greatest_limit ≡ x → P (if_limit t g limit buffer x)
       limit-case true q = room-case (leb-true limit greatest_limit q) (leb least_answer (length buffer)) refl
-      limit-case false q = refuses 35 0 (record { low = omega arith; high = omega arith; sort = inr (omega arith); near = omega arith })
+      limit-case false q = own StepLimit (record { low = omega arith; high = omega arith; sort = inr (omega arith); near = omega arith })
 
     goal-case : (v : Verdict) → goal_verdict t (read_of t).symbols g ≡ v → P (if_goal t g limit buffer v)
-    goal-case Good q = limit-case q (leb limit greatest_limit) refl
-    goal-case (Refused n p) q =
-        let r : GoalRefusal n p = goal-places t (read_of t).symbols g n p q in
-        refuses n p (record { low = omega (arith, r.low); high = omega (arith, r.high); sort = inr r.low; near = omega (arith, r.near) })
+    goal-case (Ok u) q = limit-case q (leb limit greatest_limit) refl
+    goal-case (Err r) q =
+        let k = goal-places t (read_of t).symbols g r q in
+        refuses r (record { low = omega (arith, k.low); high = omega (arith, k.high); sort = inr k.low; near = omega (arith, k.near) })
 
   table-case : (v : Verdict) → (read_of t).verdict ≡ v → P (if_table t g limit buffer v)
-  table-case Good q = goal-case q (goal_verdict t (read_of t).symbols g) refl
-  table-case (Refused n p) q =
-      let r : TableRefusal n p = refusal-small t n p q in
-      refuses n p (record { low = r.low; high = omega (arith, r.high); sort = inl q; near = r.near })
+  table-case (Ok u) q = goal-case q (goal_verdict t (read_of t).symbols g) refl
+  table-case (Err r) q =
+      let k = refusal-small t r q in
+      refuses r (record { low = k.low; high = omega (arith, k.high); sort = inl q; near = k.near })
 
   -- what holds of each refusal, and of the definition's run, holds of the call
   pub call-cases : P (run_of t g limit buffer)
@@ -76,10 +82,10 @@ module _ (P : RunOutput → Type 0) (t g : List ℕ) (limit : ℕ) (buffer : Lis
 
 -- the same, of a refusal that is known less of
 pub run-cases : (P : RunOutput → Type 0) (t g : List ℕ) (limit : ℕ) (buffer : List ℕ)
-    → ((n p : ℕ) → 16 ≤ n → n ≤ 36 → p ≤ 23681 → P (refused_run n p buffer))
+    → ((r : Refusal) → 16 ≤ number_of r.reason → number_of r.reason ≤ 36 → r.place ≤ 23681 → P (refused_run r buffer))
     → (Runs t g limit buffer → P (output_of (run (table_of t) limit (start (goal_of g))) buffer))
     → P (run_of t g limit buffer)
-run-cases P t g limit buffer refuses goes = call-cases P t g limit buffer (λ n p r. refuses n p r.low r.high r.near) goes
+run-cases P t g limit buffer refuses goes = call-cases P t g limit buffer (λ r k. refuses r k.low k.high k.near) goes
 
 -- ---- the answer
 
@@ -131,7 +137,7 @@ ran-kept t g limit buffer r few e k = record {
 pub run-output-kept : (t g : List ℕ) → AreBytes t → AreBytes g → (limit : ℕ) (buffer : List ℕ) → OutputKept limit buffer (run_of t g limit buffer)
 run-output-kept t g bt bg limit buffer =
     run-cases (OutputKept limit buffer) t g limit buffer
-    (λ n p low high near. record {
+    (λ r low high near. record {
       number = high;
       place = near;
       steps = omega arith;

@@ -5,14 +5,12 @@ use Prim.Native.Nat.{ℕ, ◌+◌, ◌≤◌, ◌<◌}
 use native.Mathlib.Omega.{arith}
 use mathlib.Core.Path.{◌≡◌, refl, sym, ◌∙◌, ap, ap₂}
 use mathlib.Core.Bool.{Bool, true, false, not, cond}
-use mathlib.Core.Option.{Option, none, some}
+use Rattle.std.specs.Prelude.{Option, Some, None}
 use mathlib.Core.List.{List, [], ◌∷◌, ◌++◌, map, append_assoc, append-nil, Memᴰ}
 use lib.Dec.{eqb}
 use lib.ListN.{length, get_or, length-append, get_or-append}
 use lib.Seq.{get_or-append_seam}
 use borrow.Author.Tests.{eqb-true, eqb-false}
-use Rattle.numbers.specs.declared.Truth.{Truth}
-use Rattle.numbers.specs.declared.Truth.TheVariants.{True, False, Undefined as Unknown}
 use Rattle.model.specs.declared.FactId.{FactId}
 use Rattle.model.specs.declared.Symbol.{Symbol}
 use Rattle.model.specs.declared.Fact.{Fact}
@@ -22,7 +20,8 @@ use Rattle.model.specs.declared.HeadPlace.{HeadPlace}
 use Rattle.model.specs.Table.{Head, Rule, heads, same_symbol}
 use Rattle.model.specs.Guards.{unbound, guard_value}
 use Rattle.model.specs.Matching.{match_head, match_slots, arguments}
-use Rattle.model.specs.Search.{same_id, is_among, nobody, Fired, fired_of, in_history, Found, nothing, undefined_guard, applies, unless_known, or_else}
+use Rattle.model.specs.declared.Fired.{Fired}
+use Rattle.model.specs.Search.{same_id, is_among, nobody, fired_of, in_history, Found, nothing, undefined_guard, applies, unless_known, or_else}
 use Rattle.model.specs.Search.{first_of, and_then, fact_if, stored_fact, may_stand, no_head, complete, candidate, search, from_active, with_active}
 use Rattle.model.specs.Search.{first_instance}
 use Rattle.model.proofs.Every.{every}
@@ -68,11 +67,11 @@ not-among s (r ∷ ss) e = (
 
 -- ---- what is known of a match, and of the stored fact of an identifier
 
-matched : (h : Head) (f : Fact) (b c : Binding) → match_head h f b ≡ some c → h.symbol ≡ f.symbol
+matched : (h : Head) (f : Fact) (b c : Binding) → match_head h f b ≡ Some c → h.symbol ≡ f.symbol
 unfolding match_head
 matched h f b c e = go (same_symbol h.symbol f.symbol) refl e
   where
-    go : (x : Bool) → same_symbol h.symbol f.symbol ≡ x → cond x (match_slots h.slots (arguments f) (some b)) none ≡ some c → h.symbol ≡ f.symbol
+    go : (x : Bool) → same_symbol h.symbol f.symbol ≡ x → cond x (match_slots h.slots (arguments f) (Some b)) None ≡ Some c → h.symbol ≡ f.symbol
     go true q r = same-symbol h.symbol f.symbol q
     go false q r = cc
 
@@ -84,8 +83,8 @@ stored-is i (s ∷ ss) = go (same_id s.id i) refl (stored_fact i ss) (stored-is 
     go : (x : Bool) → same_id s.id i ≡ x → (o : Option Fact) → OptionIs (λ f. Memᴰ (record { id = i; fact = f }) ss) o
         → OptionIs (λ f. Memᴰ (record { id = i; fact = f }) (s ∷ ss)) (fact_if x s.fact o)
     go true q o u = Memᴰ.head (ap (λ (j : FactId). record { id = j; fact = s.fact }) (sym (same-id s.id i q)))
-    go false q none u = tt
-    go false q (some f) u = Memᴰ.tail u
+    go false q None u = tt
+    go false q (Some f) u = Memᴰ.tail u
 
 pub stands-other : (active : FactId) (chosen : List FactId) (i : FactId) → may_stand active chosen i ≡ true → same_id i active ≡ false
 unfolding may_stand
@@ -113,16 +112,16 @@ module _ (P : List FactId → Binding → Type 0) where
   first_of-is f [] h = tt
   first_of-is f (s ∷ ss) h = or_else-is (f s) (first_of f ss) (h s (Memᴰ.head refl)) (first_of-is f ss (λ r m. h r (Memᴰ.tail m)))
 
-  and_then-is : (o : Option Binding) (next : Binding → Found) → ((c : Binding) → o ≡ some c → FoundIs P (next c)) → FoundIs P (and_then o next)
-  and_then-is none next h = tt
-  and_then-is (some c) next h = h c refl
+  and_then-is : (o : Option Binding) (next : Binding → Found) → ((c : Binding) → o ≡ Some c → FoundIs P (next c)) → FoundIs P (and_then o next)
+  and_then-is None next h = tt
+  and_then-is (Some c) next h = h c refl
 
-  unless-is : (known : Bool) (g : Truth) (chosen : List FactId) (b : Binding) → (known ≡ false → g ≡ True → P chosen b)
+  unless-is : (known : Bool) (g : Option Bool) (chosen : List FactId) (b : Binding) → (known ≡ false → g ≡ Some true → P chosen b)
       → FoundIs P (unless_known known g chosen b)
   unless-is true g chosen b h = tt
-  unless-is false True chosen b h = h refl refl
-  unless-is false False chosen b h = tt
-  unless-is false Unknown chosen b h = tt
+  unless-is false (Some true) chosen b h = h refl refl
+  unless-is false (Some false) chosen b h = tt
+  unless-is false None chosen b h = tt
 
 -- ---- what each partial choice keeps, a complete one has
 
@@ -131,21 +130,21 @@ module _ (store : List Stored) (history : List Fired) (p : HeadPlace) (r : Rule)
   pub record Partner (h : Head) (chosen : List FactId) (b : Binding) (s : Stored) (c : Binding) : Type 0 where
     pub stored : Memᴰ s store
     pub stands : may_stand active chosen s.id ≡ true
-    pub matches : match_head h s.fact b ≡ some c
+    pub matches : match_head h s.fact b ≡ Some c
 
   partner-is : (h : Head) (chosen : List FactId) (b : Binding) (s : Stored) (c : Binding) → Memᴰ s store
-      → candidate store history p r active h chosen b s ≡ some c → Partner h chosen b s c
+      → candidate store history p r active h chosen b s ≡ Some c → Partner h chosen b s c
   unfolding candidate
   partner-is h chosen b s c m e = go (may_stand active chosen s.id) refl e
     where
-      go : (x : Bool) → may_stand active chosen s.id ≡ x → ◌≡◌ {A = Option Binding} (elim x [ true ↦ match_head h s.fact b | false ↦ none ]) (some c)
+      go : (x : Bool) → may_stand active chosen s.id ≡ x → ◌≡◌ {A = Option Binding} (elim x [ true ↦ match_head h s.fact b | false ↦ None ]) (Some c)
           → Partner h chosen b s c
       go true q e = record { stored = m; stands = q; matches = e }
-      go false q e = absurd (let z : ◌≡◌ {A = ℕ} 0 1 = cc in omega arith)
+      go false q e = absurd cc
 
   -- Q: of the heads left, the choice and the binding; P: of what is found
   module _ (P : List FactId → Binding → Type 0) (Q : List Head → List FactId → Binding → Type 0)
-      (ends : (chosen : List FactId) (b : Binding) → Q [] chosen b → in_history (fired_of p.rule chosen) history ≡ false → guard_value b r.guards ≡ True
+      (ends : (chosen : List FactId) (b : Binding) → Q [] chosen b → in_history (fired_of p.rule chosen) history ≡ false → guard_value b r.guards ≡ Some true
       → P chosen b)
       (puts : (h : Head) (hs : List Head) (chosen : List FactId) (b : Binding) → length chosen ≡ p.head → Q (h ∷ hs) chosen b
       → Q hs (chosen ++ (active ∷ [])) b)
@@ -171,19 +170,19 @@ module _ (store : List Stored) (history : List Fired) (p : HeadPlace) (r : Rule)
             (λ c e. ih (chosen ++ (s.id ∷ [])) c (takes h hs chosen b s c (eqb-false (length chosen) p.head q) (partner-is h chosen b s c m e) k)))
 
     pub first-is : ((f : Fact) (b : Binding) → Memᴰ (record { id = active; fact = f }) store
-        → match_head (get_or (heads r) p.head no_head) f unbound ≡ some b → Q (heads r) [] b)
+        → match_head (get_or (heads r) p.head no_head) f unbound ≡ Some b → Q (heads r) [] b)
         → FoundIs P (first_instance store history p r active)
     unfolding first_instance
     first-is begins = go (stored_fact active store) (stored-is active store)
       where
         go' : (f : Fact) → Memᴰ (record { id = active; fact = f }) store → (o : Option Binding) → match_head (get_or (heads r) p.head no_head) f unbound ≡ o
             → FoundIs P (from_active store history p r active o)
-        go' f m none e = tt
-        go' f m (some b) e = search-is (heads r) [] b (begins f b m e)
+        go' f m None e = tt
+        go' f m (Some b) e = search-is (heads r) [] b (begins f b m e)
 
         go : (o : Option Fact) → OptionIs (λ f. Memᴰ (record { id = active; fact = f }) store) o → FoundIs P (with_active store history p r active o)
-        go none m = tt
-        go (some f) m = go' f m (match_head (get_or (heads r) p.head no_head) f unbound) refl
+        go None m = tt
+        go (Some f) m = go' f m (match_head (get_or (heads r) p.head no_head) f unbound) refl
 
   -- ---- an instance
 
@@ -195,7 +194,7 @@ module _ (store : List Stored) (history : List Fired) (p : HeadPlace) (r : Rule)
     pub symbols : symbols_of facts ≡ head_symbols (heads r)
     pub here : p.head < length chosen → get_or chosen p.head nobody ≡ active
     pub fresh : in_history (fired_of p.rule chosen) history ≡ false
-    pub guard : guard_value b r.guards ≡ True
+    pub guard : guard_value b r.guards ≡ Some true
 
   abbrev NotActive : Stored → Type 0
   NotActive s = active.0 ≡ s.id.0 → ⊥

@@ -9,11 +9,11 @@ use native.Mathlib.Nat.{mul-le-mul_right}
 use native.Mathlib.Omega.{arith}
 use mathlib.Core.Path.{◌≡◌, refl, sym, ◌∙◌, ap, subst}
 use mathlib.Core.Bool.{Bool, true, false, not, ◌&&◌, ◌||◌}
-use mathlib.Core.Option.{Option, none, some}
+use Rattle.std.specs.Prelude.{Option, Some, None, slice_get}
 use mathlib.Core.List.{List, [], ◌∷◌, ◌++◌, map, Memᴰ}
 use lib.IntN.{ℤ}
 use lib.Dec.{leb, ltb}
-use lib.ListN.{length, drop, get_elem?}
+use lib.ListN.{length, drop}
 use borrow.Author.Tests.{ltb-false, leb-false, ne_eqb, eq-eqb}
 use Rattle.model.specs.declared.FactId.{FactId}
 use Rattle.model.specs.declared.Symbol.{Symbol}
@@ -27,8 +27,9 @@ use Rattle.model.specs.declared.Binding.{Binding}
 use Rattle.model.specs.declared.HeadPlace.{HeadPlace}
 use Rattle.model.specs.Limits.{store_room, stack_room, history_room}
 use Rattle.model.specs.Table.{Head, Rule, Table, BodyItem, body_fact, body_fail, rule_at, places}
-use Rattle.model.specs.Search.{Fired, Found, nothing, undefined_guard, applies, same_id, is_among, fired_of, first_instance}
-use Rattle.model.specs.Steps.{State, waiting, start, argument_values, waiting_if, item_entry, cons_entry, body_entries, keep, gone, without, pruned}
+use Rattle.model.specs.declared.Fired.{Fired}
+use Rattle.model.specs.Search.{Found, nothing, undefined_guard, applies, same_id, is_among, fired_of, first_instance}
+use Rattle.model.specs.Steps.{State, waiting, start, argument_values, waiting_if, item_entry, cons_defined, body_entries, keep, gone, without, pruned}
 use Rattle.model.specs.Steps.{remembered, prunes, active_entry, activated, advanced, dropped, pop_if, is_removed, fired, Outcome, moves, fires}
 use Rattle.model.specs.Steps.{fails, stops, within_history, within_stack, with_body, with_found, at_place, activate, step_with, step_item}
 use Rattle.model.specs.Results.{Counts, no_counts}
@@ -100,7 +101,7 @@ module _ (w : Symbol → ℕ) where
     where
       go : (x : Bool) → p r ≡ x → store_weight (keep p ss) ≤ store_weight ss
           → store_weight (elim x [ true ↦ r ∷ keep p ss | false ↦ keep p ss ]) + w s.fact.symbol ≤ w r.fact.symbol + store_weight ss
-      go true q h = absurd (let z : true ≡ false = sym q ∙ ap p (sym e) ∙ d in let y : ◌≡◌ {A = ℕ} 0 1 = cc in omega arith)
+      go true q h = absurd (let z : true ≡ false = sym q ∙ ap p (sym e) ∙ d in cc)
       go false q h = omega (arith, ap (λ (z : Stored). w z.fact.symbol) e)
   keep-loses p s d (r ∷ ss) (Memᴰ.tail m) = go (p r) (keep-loses p s d ss m)
     where
@@ -117,7 +118,7 @@ module _ (w : Symbol → ℕ) where
     where
       go : (x : Bool) → x ≡ true → Memᴰ s (elim x [ true ↦ r ∷ keep p ss | false ↦ keep p ss ])
       go true q = Memᴰ.head e
-      go false q = absurd (let z : ◌≡◌ {A = ℕ} 0 1 = cc in omega arith)
+      go false q = absurd cc
   keep-has p s d (r ∷ ss) (Memᴰ.tail m) = go (p r) (keep-has p s d ss m)
     where
       go : (x : Bool) → Memᴰ s (keep p ss) → Memᴰ s (elim x [ true ↦ r ∷ keep p ss | false ↦ keep p ss ])
@@ -245,15 +246,15 @@ module _ (t : Table) (w : Symbol → ℕ) (M B : ℕ) where
   body-is b [] = record { weighs = refl; costs = omega arith }
   body-is b (body_fact s xs ∷ is) = go (argument_values b xs) (body_entries b is) (body-is b is)
     where
-      go : (o : Option (List ℤ)) (p : Option (List Entry)) → OptionIs (Pushed is) p → OptionIs (Pushed (body_fact s xs ∷ is)) (cons_entry (waiting_if s o) p)
-      go none p u = tt
-      go (some vs) none u = tt
-      go (some vs) (some es) u = record { weighs = omega (arith, u.weighs); costs = omega (arith, u.costs) }
+      go : (o : Option (List ℤ)) (p : Option (List Entry)) → OptionIs (Pushed is) p → OptionIs (Pushed (body_fact s xs ∷ is)) (cons_defined (waiting_if s o) p)
+      go None p u = tt
+      go (Some vs) None u = tt
+      go (Some vs) (Some es) u = record { weighs = omega (arith, u.weighs); costs = omega (arith, u.costs) }
   body-is b (body_fail ∷ is) = go (body_entries b is) (body-is b is)
     where
-      go : (p : Option (List Entry)) → OptionIs (Pushed is) p → OptionIs (Pushed (body_fail ∷ is)) (cons_entry (item_entry b body_fail) p)
-      go none u = tt
-      go (some es) u = record { weighs = omega (arith, u.weighs); costs = omega (arith, u.costs) }
+      go : (p : Option (List Entry)) → OptionIs (Pushed is) p → OptionIs (Pushed (body_fail ∷ is)) (cons_defined (item_entry b body_fail) p)
+      go None u = tt
+      go (Some es) u = record { weighs = omega (arith, u.weighs); costs = omega (arith, u.costs) }
 
   -- Φ is the potential, W the weight and H the length of the history before the step
   record Less (Φ W H : ℕ) (st : State) : Type 0 where
@@ -293,8 +294,8 @@ module _ (t : Table) (w : Symbol → ℕ) (M B : ℕ) where
         → Instance st.store st.history p (rule_at t p.rule) i chosen b → (o : Option (List Entry)) → OptionIs (Pushed (rule_at t p.rule).body) o
         → Falls (potential (e ∷ es) st.store) (weight (e ∷ es) st.store) (length st.history) (with_body prunes t st e es p chosen o)
     unfolding potential weight unit fired gone
-    body-falls e es p i chosen b l c none u = (omega arith, λ x. omega arith, λ x. omega arith)
-    body-falls e es p i chosen b l c (some body) u =
+    body-falls e es p i chosen b l c None u = (omega arith, λ x. omega arith, λ x. omega arith)
+    body-falls e es p i chosen b l c (Some body) u =
         let r : Rule = rule_at t p.rule in
         let k : ℕ = length r.kept in
         let rest : List Entry = pop_if (is_removed r p.head) e es in
@@ -332,8 +333,8 @@ module _ (t : Table) (w : Symbol → ℕ) (M B : ℕ) where
       place-falls : (i : FactId) (j : ℕ) (o : Option HeadPlace) → OptionIs (λ p. Light w B (rule_at t p.rule) × (j - 1 < length (places t s))) o
           → FallsFrom (Active i (record { 0 = j })) (at_place prunes t st (active_entry s i j) es i j o)
       unfolding potential weight stack_weight stack_cost dropped
-      place-falls i j none u = record { cheaper = omega arith; lighter = omega arith; shorter = omega arith }
-      place-falls i j (some p) u =
+      place-falls i j None u = record { cheaper = omega arith; lighter = omega arith; shorter = omega arith }
+      place-falls i j (Some p) u =
           found-falls i j p u.0 u.1 (first_instance st.store st.history p (rule_at t p.rule) i)
           (instance-is st.store st.history p (rule_at t p.rule) i)
 
@@ -356,7 +357,7 @@ module _ (t : Table) (w : Symbol → ℕ) (M B : ℕ) where
       unfolding step_with
       step-falls (Waiting f) = activate-falls f (ltb (length st.store) store_room) refl
       step-falls (Active i j) =
-          place-falls i j.0 (get_elem? (places t s) (j.0 - 1))
+          place-falls i j.0 (slice_get (places t s) (j.0 - 1))
           (index-is (λ (p : HeadPlace). Light w B (rule_at t p.rule)) (places t s) (j.0 - 1) (places-have t s (Light w B) h.rules))
       step-falls Fail = tt
 

@@ -14,17 +14,18 @@ use lib.ListN.{length, get_or, take}
 use lib.Seq.{take-suc, take-set-le}
 use borrow.Author.Tests.{ltb-false}
 use Rattle.model.specs.declared.Kind.{Kind}
-use Rattle.model.specs.declared.Kind.TheVariants.{NextSymbol, NextRule, KeptHead, RemovedHead, Comparison, BodyFact, BodyFail, EndOfTable, Unknown}
+use Rattle.model.specs.declared.Kind.TheVariants.{NextSymbol, NextRule, KeptHead, RemovedHead, Comparison, BodyFact, BodyFail, EndOfTable}
 use Rattle.model.specs.declared.RuleShape.{RuleShape}
 use Rattle.model.specs.declared.Scan.{Scan}
-use Rattle.model.specs.declared.RecordStep.{RecordStep}
-use Rattle.model.specs.declared.RecordStep.TheVariants.{Next, Stop, Done}
+use Rattle.std.specs.Prelude.{Ok, Err}
+use Rattle.model.specs.declared.Behind.TheVariants.{Next, Done}
+use Rattle.model.specs.declared.Reason.TheVariants.{BytesBehind}
 use Rattle.model.specs.declared.Reading.{Reading}
-use Rattle.model.specs.declared.Verdict.TheVariants.{Good, Refused}
+use Rattle.model.specs.Refusals.{refused}
 use Rattle.model.specs.Fields.{head_bad, guard_bad, body_fact_bad, bad_field}
 use Rattle.model.specs.Variables.{strange_guard, strange_fact, strange}
 use Rattle.model.specs.Reading.{no_shape, no_shapes, first_scan, reading, with_part, with_rule, with_symbol, with_kept, with_removed, with_guard}
-use Rattle.model.specs.Reading.{with_item, behind, record_of, noted, ended, go_on, read_from, read_of}
+use Rattle.model.specs.Reading.{RecordStep, with_item, behind, record_of, noted, ended, go_on, read_from, read_of}
 use Rattle.model.specs.Table.{is_fact, behind_item, heads_start, guards_start, items_start}
 use Rattle.model.proofs.Good.{Sane, Early, Passed, ItemsBy, StepIs, items-none, items-snoc, behind-fact, behind-fail, six-fact, seven-fail}
 use Rattle.model.proofs.Good.{noted-some, first-sane, past-heads, not-early, not-late, record-by, record-is}
@@ -275,15 +276,15 @@ module _ (t : List ℕ) (s : Scan) (shapes : List RuleShape) (h : Sane t s shape
       (record { kind = inr q.byte; fields = λ e. absurd (never e none); usual = λ e. absurd (never e none) })
     where
       never : {b : Bool} → b ≡ true → b ≡ false → ⊥
-      never e d = let z : ◌≡◌ {A = ℕ} 0 1 = cc in omega arith
+      never e d = cc
 
   -- what a record comes to; an end record ends a whole table
   abbrev StepWhole : RecordStep → Type 0
-  StepWhole (Next s') = Whole t s' (noted shapes s')
-  StepWhole (Stop n p) = Unit {0}
-  StepWhole (Done p) = (p ≡ s.at + 1) × (get_or t s.at 0 ≡ 8) × (s.at + 1 ≤ length t)
+  StepWhole (Ok (Next s')) = Whole t s' (noted shapes s')
+  StepWhole (Err r) = Unit {0}
+  StepWhole (Ok (Done p)) = (p ≡ s.at + 1) × (get_or t s.at 0 ≡ 8) × (s.at + 1 ≤ length t)
 
-  behind-whole : (k : Kind) → Passed t s k → StepWhole (behind s k)
+  behind-whole : (k : Kind) → Passed t s k → StepWhole (Ok (behind s k))
   unfolding behind
   behind-whole NextSymbol q = symbol-whole q
   behind-whole NextRule q = rule-whole q
@@ -293,20 +294,19 @@ module _ (t : List ℕ) (s : Scan) (shapes : List RuleShape) (h : Sane t s shape
   behind-whole BodyFact q = fact-whole q
   behind-whole BodyFail q = fail-whole q
   behind-whole EndOfTable q = (refl, q.byte, q.lies)
-  behind-whole Unknown q = tt
 
   record-whole : StepWhole (record_of t s)
-  record-whole = record-by t s shapes h StepWhole (λ n p r. tt) behind-whole
+  record-whole = record-by t s shapes h StepWhole (λ r k. tt) behind-whole
 
   -- ---- the end record
 
-  end-whole : (p : ℕ) → StepWhole (Done p) → ended t p ≡ Good → ReadingWhole t (reading (ended t p) s.symbols s.rules shapes)
+  end-whole : (p : ℕ) → StepWhole (Ok (Done p)) → ended t p ≡ Ok tt → ReadingWhole t (reading (ended t p) s.symbols s.rules shapes)
   unfolding ended
   end-whole p d = go (ltb p (length t)) refl
     where
-      go : (b : Bool) → ltb p (length t) ≡ b → cond b (Refused 23 p) Good ≡ Good
-          → ReadingWhole t (reading (cond b (Refused 23 p) Good) s.symbols s.rules shapes)
-      go true l e = absurd (let z : ◌≡◌ {A = ℕ} 0 1 = cc in omega arith)
+      go : (b : Bool) → ltb p (length t) ≡ b → cond b (refused BytesBehind p) (Ok tt) ≡ Ok (tt {0})
+          → ReadingWhole t (reading (cond b (refused BytesBehind p) (Ok tt)) s.symbols s.rules shapes)
+      go true l e = absurd cc
       go false l e = record {
         symbols = w.symbols;
         arities = w.arities;
@@ -318,20 +318,20 @@ module _ (t : List ℕ) (s : Scan) (shapes : List RuleShape) (h : Sane t s shape
 
 -- ---- the whole table
 
-pub read-whole : (n : ℕ) (t : List ℕ) (s : Scan) (shapes : List RuleShape) → Sane t s shapes → Whole t s shapes → (read_from n t s shapes).verdict ≡ Good
+pub read-whole : (n : ℕ) (t : List ℕ) (s : Scan) (shapes : List RuleShape) → Sane t s shapes → Whole t s shapes → (read_from n t s shapes).verdict ≡ Ok tt
     → ReadingWhole t (read_from n t s shapes)
 unfolding read_from go_on
-read-whole zero t s shapes h w = λ e. absurd (let z : ◌≡◌ {A = ℕ} 0 1 = cc in omega arith)
+read-whole zero t s shapes h w = λ e. absurd cc
 read-whole (suc n) t s shapes h w = go (record_of t s) (record-is t s shapes h) (record-whole t s shapes h w) (read-whole n t)
   where
     go : (r : RecordStep) → StepIs t s shapes r → StepWhole t s shapes h w r
-        → ((s' : Scan) (shapes' : List RuleShape) → Sane t s' shapes' → Whole t s' shapes' → (read_from n t s' shapes').verdict ≡ Good
+        → ((s' : Scan) (shapes' : List RuleShape) → Sane t s' shapes' → Whole t s' shapes' → (read_from n t s' shapes').verdict ≡ Ok tt
         → ReadingWhole t (read_from n t s' shapes'))
-        → (go_on t s shapes (read_from n t) r).verdict ≡ Good → ReadingWhole t (go_on t s shapes (read_from n t) r)
-    go (Next s') a b ih e = ih s' (noted shapes s') a.1 b e
-    go (Stop k p) a b ih e = absurd (let z : ◌≡◌ {A = ℕ} 0 1 = cc in omega arith)
-    go (Done p) a b ih e = end-whole t s shapes h w p b e
+        → (go_on t s shapes (read_from n t) r).verdict ≡ Ok tt → ReadingWhole t (go_on t s shapes (read_from n t) r)
+    go (Ok (Next s')) a b ih e = ih s' (noted shapes s') a.1 b e
+    go (Err r) a b ih e = absurd cc
+    go (Ok (Done p)) a b ih e = end-whole t s shapes h w p b e
 
-pub whole-table : (t : List ℕ) → (read_of t).verdict ≡ Good → TableWhole t
+pub whole-table : (t : List ℕ) → (read_of t).verdict ≡ Ok tt → TableWhole t
 unfolding read_of
 whole-table t e = read-whole (length t) t first_scan no_shapes (first-sane t) (first-whole t) e

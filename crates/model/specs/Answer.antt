@@ -1,7 +1,12 @@
 -- The answer's bytes: "kind 17 records by rising identifier, then bytes as they were".
-use Rattle.std.specs.Prelude.{ℕ, ◌*◌, List, [], ◌∷◌, ◌++◌, length, drop}
+use Rattle.std.specs.Prelude.{ℕ, ◌*◌, List, [], ◌∷◌, ◌++◌, ℤ, pos, length, get_or, drop}
+use Rattle.model.specs.declared.Fact.{Fact}
 use Rattle.model.specs.declared.Stored.{Stored}
 use Rattle.wire.specs.Wire.{bytes4, bits_of}
+
+-- a fact's argument k
+abbrev pub argument : Fact → ℕ → ℤ
+argument f k = get_or f.arguments k (pos 0)
 
 -- "stored fact: identifier (4), symbol, four arguments"
 unfoldable pub stored_bytes : Stored → List ℕ
@@ -9,7 +14,8 @@ stored_bytes s =
     17
     ∷ (bytes4 s.id.0
     ++ (s.fact.symbol.0
-    ∷ (bytes4 (bits_of s.fact.a0) ++ (bytes4 (bits_of s.fact.a1) ++ (bytes4 (bits_of s.fact.a2) ++ bytes4 (bits_of s.fact.a3))))))
+    ∷ (bytes4 (bits_of (argument s.fact 0))
+    ++ (bytes4 (bits_of (argument s.fact 1)) ++ (bytes4 (bits_of (argument s.fact 2)) ++ bytes4 (bits_of (argument s.fact 3)))))))
 
 unfoldable pub answer_bytes : List Stored → List ℕ
 answer_bytes [] = []

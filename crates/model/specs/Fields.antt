@@ -1,7 +1,7 @@
 -- 20, "bad field: arity, undeclared symbol, tag, operation, comparator, unused or used place, variable".
 use Rattle.std.specs.Prelude.{ℕ, ◌+◌, ◌*◌, List, Bool, true, false, not, ◌||◌, get_or, ltb, leb}
 use Rattle.model.specs.declared.Kind.{Kind}
-use Rattle.model.specs.declared.Kind.TheVariants.{NextSymbol, NextRule, KeptHead, RemovedHead, Comparison, BodyFact, BodyFail, EndOfTable, Unknown}
+use Rattle.model.specs.declared.Kind.TheVariants.{NextSymbol, NextRule, KeptHead, RemovedHead, Comparison, BodyFact, BodyFail, EndOfTable}
 use Rattle.model.specs.declared.Scan.{Scan}
 use Rattle.model.specs.declared.Slot.{Slot}
 use Rattle.model.specs.declared.Slot.TheVariants.{Unused, Constant, Variable, Bad}
@@ -71,4 +71,3 @@ bad_field t s Comparison = guard_bad t s.at
 bad_field t s BodyFact = body_fact_bad t s.at s.symbols
 bad_field t s BodyFail = false
 bad_field t s EndOfTable = false
-bad_field t s Unknown = false

@@ -1,16 +1,16 @@
 -- Reading a goal: 32, 34, 33.
-use Rattle.std.specs.Prelude.{ℕ, zero, suc, ◌+◌, ◌*◌, ◌/◌, ◌%◌, Bool, true, false, not, cond, ◌&&◌, ◌||◌, List, [], ◌∷◌, leb, eqb, length, get_or}
+use Rattle.std.specs.Prelude.{ℕ, zero, suc, ◌+◌, ◌*◌, ◌/◌, ◌%◌, Bool, true, false, not, cond, ◌&&◌, ◌||◌, List, [], ◌∷◌, Ok, leb, eqb, length, get_or}
 use Rattle.model.specs.declared.Fact.{Fact}
-use Rattle.model.specs.declared.Verdict.{Verdict}
-use Rattle.model.specs.declared.Verdict.TheVariants.{Good, Refused}
+use Rattle.model.specs.declared.Reason.TheVariants.{GoalLength, BadGoalFact, LongGoal}
 use Rattle.model.specs.Limits.{most_goal_facts}
+use Rattle.model.specs.Refusals.{Verdict, refused}
 use Rattle.model.specs.Fields.{arity_at}
 use Rattle.model.specs.Table.{symbol_at}
 use Rattle.wire.specs.Wire.{u32_at, i32_at}
 
 -- "goal fact: symbol, four arguments", at its kind byte; "facts' arguments are two's complement"
 unfoldable pub fact_at : List ℕ → ℕ → Fact
-fact_at g p = record { symbol = symbol_at g (p + 1); a0 = i32_at g (p + 2); a1 = i32_at g (p + 6); a2 = i32_at g (p + 10); a3 = i32_at g (p + 14) }
+fact_at g p = record { symbol = symbol_at g (p + 1); arguments = i32_at g (p + 2) ∷ i32_at g (p + 6) ∷ i32_at g (p + 10) ∷ i32_at g (p + 14) ∷ [] }
 
 unfoldable pub facts_from : List ℕ → ℕ → ℕ → List Fact
 facts_from g p zero = []
@@ -36,16 +36,16 @@ goal_fact_bad t symbols g p =
 
 -- the first bad one of n facts, the first of which is fact k
 unfoldable pub facts_verdict : List ℕ → ℕ → List ℕ → ℕ → ℕ → Verdict
-facts_verdict t symbols g k zero = Good
+facts_verdict t symbols g k zero = Ok tt
 facts_verdict t symbols g k (suc n) =
-    elim (goal_fact_bad t symbols g (18 * k)) [ true ↦ Refused 33 k | false ↦ facts_verdict t symbols g (k + 1) n ]
+    elim (goal_fact_bad t symbols g (18 * k)) [ true ↦ refused BadGoalFact k | false ↦ facts_verdict t symbols g (k + 1) n ]
 
 -- 32 "goal length no multiple of 18", 34 "over 64 facts", 33
 unfoldable pub goal_verdict : List ℕ → ℕ → List ℕ → Verdict
 goal_verdict t symbols g =
     cond (eqb (length g % 18) 0)
-    (cond (leb (length g / 18) most_goal_facts) (facts_verdict t symbols g 0 (length g / 18)) (Refused 34 0))
-    (Refused 32 0)
+    (cond (leb (length g / 18) most_goal_facts) (facts_verdict t symbols g 0 (length g / 18)) (refused LongGoal 0))
+    (refused GoalLength 0)
 
 unfoldable pub goal_of : List ℕ → List Fact
 goal_of g = facts_from g 0 (length g / 18)

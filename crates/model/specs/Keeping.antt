@@ -2,7 +2,7 @@
 use Rattle.std.specs.Prelude.{ℕ, true, List, [], ◌∷◌, ◌++◌}
 use Rattle.model.specs.declared.FactId.{FactId}
 use Rattle.model.specs.Table.{Head, Table}
-use Rattle.model.specs.Search.{Fired}
+use Rattle.model.specs.declared.Fired.{Fired}
 use Rattle.model.specs.Steps.{State, Memory}
 use Rattle.model.specs.Results.{no_counts}
 use Rattle.model.specs.Run.{Ended, run_with}

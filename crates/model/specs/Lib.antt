@@ -1,5 +1,6 @@
 -- The definition, in the order in which it is read (docs/DEFINITION.md).
 pub mod Limits
+pub mod Refusals
 pub mod Records
 pub mod Slots
 pub mod Fields

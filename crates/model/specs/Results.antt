@@ -1,6 +1,8 @@
 -- What every call gives back, in words of 32 bits. A result is built here alone.
 use Rattle.std.specs.Prelude.{ℕ}
 use Rattle.model.specs.declared.CallResult.{CallResult}
+use Rattle.model.specs.declared.Refusal.{Refusal}
+use Rattle.model.specs.Refusals.{number_of}
 
 -- what a run counts
 pub record Counts : Type 0 where
@@ -24,3 +26,6 @@ result_words = 6
 -- "Numbers 16 and above have all four counts 0."
 abbrev pub refusal : ℕ → ℕ → CallResult
 refusal n p = result_of n p no_counts 0 0
+
+abbrev pub refused_result : Refusal → CallResult
+refused_result r = refusal (number_of r.reason) r.place

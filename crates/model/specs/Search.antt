@@ -1,12 +1,11 @@
 -- The search for the first applicable instance.
 use Rattle.std.specs.Prelude.{Bool, true, false, not, ◌&&◌, ◌||◌, List, [], ◌∷◌, ◌++◌, eqb, get_or, length}
-use Rattle.std.proofs.Math.Option.{Option, none, some}
-use Rattle.numbers.specs.declared.Truth.{Truth}
-use Rattle.numbers.specs.declared.Truth.TheVariants.{True, False, Undefined as Unknown}
+use Rattle.std.specs.Prelude.{Option, Some, None}
 use Rattle.model.specs.declared.FactId.{FactId}
 use Rattle.model.specs.declared.RuleNumber.{RuleNumber}
 use Rattle.model.specs.declared.Fact.{Fact}
 use Rattle.model.specs.declared.Stored.{Stored}
+use Rattle.model.specs.declared.Fired.{Fired}
 use Rattle.model.specs.declared.Binding.{Binding}
 use Rattle.model.specs.declared.HeadPlace.{HeadPlace}
 use Rattle.model.specs.Table.{Head, Rule, heads}
@@ -25,10 +24,6 @@ is_among i (j ∷ js) = same_id i j || is_among i js
 -- identifiers begin at 1, so that 0 names nobody: it stands where a rule has no further head
 abbrev pub nobody : FactId
 nobody = record { 0 = 0 }
-
-pub record Fired : Type 0 where
-  pub rule : RuleNumber
-  pub ids : List FactId
 
 unfoldable pub four : List FactId → List FactId
 four is = get_or is 0 nobody ∷ get_or is 1 nobody ∷ get_or is 2 nobody ∷ get_or is 3 nobody ∷ []
@@ -56,12 +51,12 @@ pub data Found : Type 0 where
   undefined_guard : Found
   applies : List FactId → Binding → Found
 
-abbrev pub judged : Truth → List FactId → Binding → Found
-judged True chosen b = applies chosen b
-judged False chosen b = nothing
-judged Unknown chosen b = undefined_guard
+abbrev pub judged : Option Bool → List FactId → Binding → Found
+judged (Some true) chosen b = applies chosen b
+judged (Some false) chosen b = nothing
+judged None chosen b = undefined_guard
 
-abbrev pub unless_known : Bool → Truth → List FactId → Binding → Found
+abbrev pub unless_known : Bool → Option Bool → List FactId → Binding → Found
 unless_known true g chosen b = nothing
 unless_known false g chosen b = judged g chosen b
 
@@ -76,8 +71,8 @@ first_of f [] = nothing
 first_of f (s ∷ ss) = let later = first_of f ss in or_else (f s) later
 
 abbrev pub and_then : Option Binding → (Binding → Found) → Found
-and_then none next = nothing
-and_then (some b) next = next b
+and_then None next = nothing
+and_then (Some b) next = next b
 
 abbrev pub found_if : Bool → Found → Found
 found_if true f = f
@@ -85,11 +80,11 @@ found_if false f = nothing
 
 -- the stored fact of an identifier
 abbrev pub fact_if : Bool → Fact → Option Fact → Option Fact
-fact_if true f later = some f
+fact_if true f later = Some f
 fact_if false f later = later
 
 unfoldable pub stored_fact : FactId → List Stored → Option Fact
-stored_fact i [] = none
+stored_fact i [] = None
 stored_fact i (s ∷ ss) = fact_if (same_id s.id i) s.fact (stored_fact i ss)
 
 -- "An instance gives every head a different stored fact, the active fact at its place"
@@ -107,7 +102,7 @@ module _ (store : List Stored) (history : List Fired) (p : HeadPlace) (r : Rule)
 
   -- one stored fact as the partner for head h
   unfoldable pub candidate : Head → List FactId → Binding → Stored → Option Binding
-  candidate h chosen b s = elim (may_stand active chosen s.id) [ true ↦ match_head h s.fact b | false ↦ none ]
+  candidate h chosen b s = elim (may_stand active chosen s.id) [ true ↦ match_head h s.fact b | false ↦ None ]
 
   -- "Instances are tried in the order of the partners' identifiers, read in written head order and compared as lists, smallest first."
   -- The heads that are left, the facts chosen for those before them, and the binding so far
@@ -121,12 +116,12 @@ module _ (store : List Stored) (history : List Fired) (p : HeadPlace) (r : Rule)
 
   -- the active fact is bound at its place first. "An active fact that another firing removed has no instance"
   abbrev pub from_active : Option Binding → Found
-  from_active none = nothing
-  from_active (some b) = search (heads r) [] b
+  from_active None = nothing
+  from_active (Some b) = search (heads r) [] b
 
   abbrev pub with_active : Option Fact → Found
-  with_active none = nothing
-  with_active (some f) = from_active (match_head (get_or (heads r) p.head no_head) f unbound)
+  with_active None = nothing
+  with_active (Some f) = from_active (match_head (get_or (heads r) p.head no_head) f unbound)
 
   unfoldable pub first_instance : Found
   first_instance = with_active (stored_fact active store)

@@ -1,9 +1,6 @@
 -- The state, and what its top entry comes to.
 use Rattle.std.specs.Prelude.{ℕ, suc, ◌-◌, Bool, true, false, not, ◌||◌, List, [], ◌∷◌, ◌++◌, map, ℤ, pos, leb, ltb, length, get_or, drop}
-use Rattle.std.proofs.Math.Option.{Option, none, some}
-use Rattle.std.proofs.Math.ListN.{get_elem?}
-use Rattle.numbers.specs.declared.Value.{Value}
-use Rattle.numbers.specs.declared.Value.TheVariants.{Number, Undefined}
+use Rattle.std.specs.Prelude.{Option, Some, None, slice_get}
 use Rattle.model.specs.declared.FactId.{FactId}
 use Rattle.model.specs.declared.Symbol.{Symbol}
 use Rattle.model.specs.declared.RuleNumber.{RuleNumber}
@@ -18,7 +15,8 @@ use Rattle.model.specs.declared.HeadPlace.{HeadPlace}
 use Rattle.model.specs.Limits.{store_room, stack_room, history_room}
 use Rattle.model.specs.Table.{Head, Rule, Table, BodyItem, body_fact, body_fail, rule_at, places}
 use Rattle.model.specs.Guards.{expression_value}
-use Rattle.model.specs.Search.{Fired, Found, nothing, undefined_guard, applies, is_among, fired_of, first_instance}
+use Rattle.model.specs.declared.Fired.{Fired}
+use Rattle.model.specs.Search.{Found, nothing, undefined_guard, applies, is_among, fired_of, first_instance}
 
 -- "A state is a stack, a store, a history and the next identifier (first 1)."
 pub record State : Type 0 where
@@ -41,37 +39,33 @@ fail_entry = record { symbol = record { 0 = 0 }; item = Fail }
 
 -- what an empty place of a store's array holds
 abbrev pub no_stored : Stored
-no_stored = record { id = record { 0 = 0 }; fact = record { symbol = record { 0 = 0 }; a0 = pos 0; a1 = pos 0; a2 = pos 0; a3 = pos 0 } }
+no_stored = record { id = record { 0 = 0 }; fact = record { symbol = record { 0 = 0 }; arguments = pos 0 ∷ pos 0 ∷ pos 0 ∷ pos 0 ∷ [] } }
 
-abbrev pub cons_defined : Value → Option (List ℤ) → Option (List ℤ)
-cons_defined Undefined vs = none
-cons_defined (Number v) none = none
-cons_defined (Number v) (some vs) = some (v ∷ vs)
+-- a list with one more in front, if both are there
+abbrev pub cons_defined : {A : Type 0} → Option A → Option (List A) → Option (List A)
+cons_defined None xs = None
+cons_defined (Some x) None = None
+cons_defined (Some x) (Some xs) = Some (x ∷ xs)
 
 unfoldable pub argument_values : Binding → List Expression → Option (List ℤ)
-argument_values b [] = some []
+argument_values b [] = Some []
 argument_values b (e ∷ es) = cons_defined (expression_value b e) (argument_values b es)
 
 abbrev pub fact_of : Symbol → List ℤ → Fact
-fact_of s vs = record { symbol = s; a0 = get_or vs 0 (pos 0); a1 = get_or vs 1 (pos 0); a2 = get_or vs 2 (pos 0); a3 = get_or vs 3 (pos 0) }
+fact_of s vs = record { symbol = s; arguments = get_or vs 0 (pos 0) ∷ get_or vs 1 (pos 0) ∷ get_or vs 2 (pos 0) ∷ get_or vs 3 (pos 0) ∷ [] }
 
 abbrev pub waiting_if : Symbol → Option (List ℤ) → Option Entry
-waiting_if s none = none
-waiting_if s (some vs) = some (waiting (fact_of s vs))
+waiting_if s None = None
+waiting_if s (Some vs) = Some (waiting (fact_of s vs))
 
 unfoldable pub item_entry : Binding → BodyItem → Option Entry
 item_entry b (body_fact s es) = waiting_if s (argument_values b es)
-item_entry b body_fail = some fail_entry
-
-abbrev pub cons_entry : Option Entry → Option (List Entry) → Option (List Entry)
-cons_entry none es = none
-cons_entry (some e) none = none
-cons_entry (some e) (some es) = some (e ∷ es)
+item_entry b body_fail = Some fail_entry
 
 -- the stack entries of a whole body, or nothing if an argument is undefined
 unfoldable pub body_entries : Binding → List BodyItem → Option (List Entry)
-body_entries b [] = some []
-body_entries b (i ∷ is) = cons_entry (item_entry b i) (body_entries b is)
+body_entries b [] = Some []
+body_entries b (i ∷ is) = cons_defined (item_entry b i) (body_entries b is)
 
 -- ---- what a firing leaves
 
@@ -172,8 +166,8 @@ activate st e es f false = stops 5 0
 
 module _ (m : Memory) (t : Table) (st : State) (e : Entry) (es : List Entry) where
   abbrev pub with_body : HeadPlace → List FactId → Option (List Entry) → Outcome
-  with_body p chosen none = stops 4 p.rule.0
-  with_body p chosen (some body) =
+  with_body p chosen None = stops 4 p.rule.0
+  with_body p chosen (Some body) =
       let after = fired m st e es p (rule_at t p.rule) chosen body in
       within_stack m (leb (length after.stack) stack_room) p.rule after
 
@@ -185,13 +179,13 @@ module _ (m : Memory) (t : Table) (st : State) (e : Entry) (es : List Entry) whe
 
   -- Drop, or a try at occurrence j
   abbrev pub at_place : FactId → ℕ → Option HeadPlace → Outcome
-  at_place i j none = moves (dropped st es)
-  at_place i j (some p) = with_found i j p (first_instance st.store st.history p (rule_at t p.rule) i)
+  at_place i j None = moves (dropped st es)
+  at_place i j (Some p) = with_found i j p (first_instance st.store st.history p (rule_at t p.rule) i)
 
   -- "the top entry decides". Occurrences are counted from 1
   unfoldable pub step_with : Item → Outcome
   step_with (Waiting f) = activate st e es f (ltb (length st.store) store_room)
-  step_with (Active i j) = at_place i j.0 (get_elem? (places t e.symbol) (j.0 - 1))
+  step_with (Active i j) = at_place i j.0 (slice_get (places t e.symbol) (j.0 - 1))
   step_with Fail = fails
 
 -- a step of a run

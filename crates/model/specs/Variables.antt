@@ -1,7 +1,7 @@
 -- 22, "guard or body variable in no head".
 use Rattle.std.specs.Prelude.{ℕ, zero, suc, ◌+◌, List, Bool, false, not, ◌||◌, eqb}
 use Rattle.model.specs.declared.Kind.{Kind}
-use Rattle.model.specs.declared.Kind.TheVariants.{NextSymbol, NextRule, KeptHead, RemovedHead, Comparison, BodyFact, BodyFail, EndOfTable, Unknown}
+use Rattle.model.specs.declared.Kind.TheVariants.{NextSymbol, NextRule, KeptHead, RemovedHead, Comparison, BodyFact, BodyFail, EndOfTable}
 use Rattle.model.specs.declared.Scan.{Scan}
 use Rattle.model.specs.declared.Slot.{Slot}
 use Rattle.model.specs.declared.Slot.TheVariants.{Unused, Constant, Variable, Bad}
@@ -59,4 +59,3 @@ strange t s Comparison = strange_guard t s.shape.start s.shape.heads s.at
 strange t s BodyFact = strange_fact t s.shape.start s.shape.heads s.at
 strange t s BodyFail = false
 strange t s EndOfTable = false
-strange t s Unknown = false

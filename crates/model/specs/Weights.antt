@@ -1,7 +1,7 @@
 -- Weighing: what rules and goals weigh, and the step bound of the mission's third demand.
-use Rattle.std.specs.Prelude.{ℕ, zero, suc, max, ◌+◌, ◌*◌, true, false, List, [], ◌∷◌, ltb, length, get_or}
-use Rattle.std.proofs.Math.Option.{Option, none, some}
+use Rattle.std.specs.Prelude.{ℕ, zero, suc, max, ◌+◌, ◌*◌, true, false, List, [], ◌∷◌, ltb, length, get_or, Option, Some, None}
 use Rattle.model.specs.declared.Symbol.{Symbol}
+use Rattle.model.specs.declared.RuleNumber.{RuleNumber}
 use Rattle.model.specs.declared.Fact.{Fact}
 use Rattle.model.specs.Table.{Head, Rule, Table, BodyItem, body_fact, body_fail, places}
 
@@ -45,12 +45,13 @@ unfoldable pub step_bound : ℕ → ℕ → ℕ → ℕ → ℕ
 step_bound G B W M = (G + B * W) * (M + 2) + W + 1
 
 -- 41: "first zero weight", counted from k
-unfoldable pub first_zero : ℕ → List ℕ → Option ℕ
-first_zero k [] = none
-first_zero k (zero ∷ ws) = some k
+unfoldable pub first_zero : ℕ → List ℕ → Option Symbol
+first_zero k [] = None
+first_zero k (zero ∷ ws) = Some (record { 0 = k })
 first_zero k (suc n ∷ ws) = first_zero (suc k) ws
 
 -- 42: "first rule that does not lose weight", counted from k: its removed heads do not weigh more than its body
-unfoldable pub first_heavy : (Symbol → ℕ) → ℕ → List Rule → Option ℕ
-first_heavy w k [] = none
-first_heavy w k (r ∷ rs) = elim (ltb (body_weight w r.body) (heads_weight w r.removed)) [ true ↦ first_heavy w (suc k) rs | false ↦ some k ]
+unfoldable pub first_heavy : (Symbol → ℕ) → ℕ → List Rule → Option RuleNumber
+first_heavy w k [] = None
+first_heavy w k (r ∷ rs) =
+    elim (ltb (body_weight w r.body) (heads_weight w r.removed)) [ true ↦ first_heavy w (suc k) rs | false ↦ Some (record { 0 = k }) ]

@@ -2,87 +2,63 @@
 // contract can name the definition's own value.
 #![tactic(auto)]
 
-ghost use Rattle.std.specs.Prelude.{◌≡◌};
-ghost use Rattle.model.specs.Steps.{fail_entry, no_stored};
-ghost use Rattle.model.specs.Results.{counts_of, result_of, refusal};
+ghost use Rattle.std.specs.Prelude.{◌≡◌, ◌<◌, ◌^◌};
+ghost use Rattle.model.specs.Guards.{unbound};
+ghost use Rattle.model.specs.Refusals.{number_of};
+ghost use Rattle.model.specs.Results.{counts_of, result_of, refusal, refused_result};
 
 // Identifiers, symbols, rules and occurrences count separate things: no one of them passes as another.
-#[derive(Clone, Copy)]
+#[derive(Clone, Copy, PartialEq, Eq, Default)]
 pub struct FactId(pub u32);
 
-#[derive(Clone, Copy)]
+#[derive(Clone, Copy, PartialEq, Eq, Default)]
 pub struct Symbol(pub u8);
 
-#[derive(Clone, Copy)]
+#[derive(Clone, Copy, PartialEq, Eq, Default)]
 pub struct RuleNumber(pub u8);
 
-#[derive(Clone, Copy)]
+#[derive(Clone, Copy, PartialEq, Eq, PartialOrd, Ord)]
 pub struct Occurrence(pub u16);
 
 // ---- facts, the store and the stack
 
 // Places that the symbol does not use are zero.
-#[derive(Clone, Copy)]
+#[derive(Clone, Copy, PartialEq, Eq, Default)]
 pub struct Fact {
     pub symbol: Symbol,
-    pub a0: i32,
-    pub a1: i32,
-    pub a2: i32,
-    pub a3: i32,
+    pub arguments: [i32; Fact::ARGUMENTS],
 }
 
-#[derive(Clone, Copy)]
+impl Fact {
+    pub const ARGUMENTS: usize = 4;
+}
+
+#[derive(Clone, Copy, PartialEq, Eq, Default)]
 pub struct Stored {
     pub id: FactId,
     pub fact: Fact,
 }
 
-#[derive(Clone, Copy)]
+#[derive(Clone, Copy, Default)]
 pub enum Item {
     Waiting(Fact),
     Active(FactId, Occurrence),
+    #[default]
     Fail,
 }
 
 // An entry knows its symbol, since an active fact that was removed still goes on over its occurrences.
-#[derive(Clone, Copy)]
+#[derive(Clone, Copy, Default)]
 pub struct Entry {
     pub symbol: Symbol,
     pub item: Item,
 }
 
 // A firing in the history: the rule, and the identifiers in head order, 0 where the rule has no such head.
-pub type HistoryEntry = [u32; 1 + Rule::HEADS];
-
-// ---- a fresh state: what the places of its arrays hold before anything does
-
-impl Entry {
-    pub fn empty() -> Entry
-        ensures { result ≡ fail_entry }
-    {
-        Entry {
-            symbol: Symbol(0),
-            item: Item::Fail,
-        }
-    }
-}
-
-impl Stored {
-    pub fn empty() -> Stored
-        ensures { result ≡ no_stored }
-    {
-        let fact = Fact {
-            symbol: Symbol(0),
-            a0: 0,
-            a1: 0,
-            a2: 0,
-            a3: 0,
-        };
-        Stored {
-            id: FactId(0),
-            fact: fact,
-        }
-    }
+#[derive(Clone, Copy, PartialEq, Eq, Default)]
+pub struct Fired {
+    pub rule: RuleNumber,
+    pub ids: [FactId; Rule::HEADS],
 }
 
 // ---- a rule's parts
@@ -98,21 +74,32 @@ pub enum Slot {
 
 #[derive(Clone, Copy)]
 pub struct Expression {
+    // Kept: a number, since `numbers::evaluate` answers to every number, also one that no enum has.
     pub operation: u8,
     pub left: Slot,
     pub right: Slot,
 }
 
 // What the variables 0..15 are bound to, where they are.
-#[derive(Clone, Copy)]
+#[derive(Clone, Copy, PartialEq, Eq)]
 pub struct Binding {
-    pub values: [i32; Rule::VARIABLES],
-    pub bound: [bool; Rule::VARIABLES],
+    pub values: [Option<i32>; Rule::VARIABLES],
+}
+
+impl Binding {
+    // No variable is bound.
+    pub fn unbound() -> Binding
+        ensures { result ≡ unbound }
+    {
+        Binding {
+            values: [None; Rule::VARIABLES],
+        }
+    }
 }
 
 // Where a rule stands in its table's bytes, and how many parts of each sort it has; `heads` counts kept and removed ones.
 // Eight bytes, since 64 of them go by value with a reading.
-#[derive(Clone, Copy)]
+#[derive(Clone, Copy, PartialEq, Eq, Default)]
 pub struct RuleShape {
     pub start: u32,
     pub kept: u8,
@@ -122,16 +109,73 @@ pub struct RuleShape {
 }
 
 // A head of a rule, counted from 0 in written head order.
-#[derive(Clone, Copy)]
+#[derive(Clone, Copy, PartialEq, Eq)]
 pub struct HeadPlace {
     pub rule: RuleNumber,
     pub head: u8,
 }
 
+// ---- refusals
+
+// What a call refuses, each by its number in the documents.
+#[derive(Clone, Copy, PartialEq, Eq)]
+pub enum Reason {
+    // of a table
+    UnknownKind = 16,
+    CutShort = 17,
+    OutOfOrder = 18,
+    TooMany = 19,
+    BadField = 20,
+    Headless = 21,
+    StrangeVariable = 22,
+    BytesBehind = 23,
+    // of a run
+    GoalLength = 32,
+    BadGoalFact = 33,
+    LongGoal = 34,
+    StepLimit = 35,
+    ShortAnswer = 36,
+    // of weights
+    WeightCount = 40,
+    ZeroWeight = 41,
+    HeavyRule = 42,
+    // of a text
+    LongText = 48,
+    NoToken = 49,
+    NoGrammarRule = 50,
+    NoRoom = 51,
+}
+
+impl Reason {
+    pub fn number(self) -> u8
+        ensures { result ≡ number_of self }
+    {
+        self as u8
+    }
+}
+
+#[derive(Clone, Copy, PartialEq, Eq)]
+pub struct Refusal {
+    pub reason: Reason,
+    pub place: u32,
+}
+
+impl Refusal {
+    pub fn at(reason: Reason, place: usize) -> Refusal
+        requires { place < 2 ^ 32 }
+        ensures { result ≡ record { reason = reason; place = place } }
+    {
+        Refusal {
+            reason,
+            place: place as u32,
+        }
+    }
+}
+
 // ---- reading a table
 
 // The kinds of a table's records.
-#[derive(Clone, Copy)]
+#[derive(Clone, Copy, PartialEq, Eq)]
 pub enum Kind {
     NextSymbol,
     NextRule,
@@ -141,15 +185,34 @@ pub enum Kind {
     BodyFact,
     BodyFail,
     EndOfTable,
-    Unknown,
+}
+
+// How far reading a table has come.
+// Kept: numbers, since the definition (`out_of_order`) and what it keeps (`Sane`, `InRule`) compare stages as numbers.
+pub struct Stage;
+
+impl Stage {
+    // before the first rule
+    pub const SYMBOLS: u8 = 0;
+
+    // in a rule
+    pub const NO_HEAD: u8 = 1;
+
+    pub const KEPT_HEADS: u8 = 2;
+
+    pub const REMOVED_HEADS: u8 = 3;
+
+    pub const GUARDS: u8 = 4;
+
+    pub const BODY: u8 = 5;
 }
 
 // What the records before an offset have said.
-#[derive(Clone, Copy)]
+#[derive(Clone, Copy, PartialEq, Eq, Default)]
 pub struct Scan {
     // the offset of the next record
     pub at: usize,
-    // 0 before the first rule; in a rule: 1 no head yet, 2 kept heads, 3 removed heads, 4 guards, 5 body
+    // one of Stage
     pub stage: u8,
     pub symbols: u8,
     pub rules: u8,
@@ -157,27 +220,19 @@ pub struct Scan {
     pub shape: RuleShape,
 }
 
-// What one record comes to.
-#[derive(Clone, Copy)]
-pub enum RecordStep {
-    // a good record: what is known behind it
+// What a good record comes to.
+#[derive(Clone, Copy, PartialEq, Eq)]
+pub enum Behind {
+    // what is known behind it
     Next(Scan),
-    // a refusal: its number and its place
-    Stop(u8, usize),
-    // a good end record: the offset behind it
+    // it was the end record: the offset behind it
     Done(usize),
-}
-
-#[derive(Clone, Copy)]
-pub enum Verdict {
-    Good,
-    Refused(u8, usize),
 }
 
 // A table as it is read: whether it is good, and where its rules stand. Shapes behind the last rule are zero.
 #[derive(Clone, Copy)]
 pub struct Reading {
-    pub verdict: Verdict,
+    pub verdict: Result<(), Refusal>,
     pub symbols: u8,
     pub rules: u8,
     pub shapes: [RuleShape; Table::RULES],
@@ -186,8 +241,9 @@ pub struct Reading {
 // ---- results
 
 // "A result has: number, place, steps, firings, identifiers given, facts stored."
-#[derive(Clone, Copy)]
+#[derive(Clone, Copy, PartialEq, Eq, Default)]
 pub struct CallResult {
+    // Kept: a number and no reason, since a C host gets a result as six words (include/nadhirukh.h).
     pub number: u32,
     pub place: u32,
     pub steps: u32,
@@ -200,7 +256,7 @@ impl CallResult {
     // How many words of 32 bits a result is.
     pub const WORDS: usize = 6;
 
-    // Every result is built here.
+    // A result of its six words.
     pub fn new(
         number: u8,
         place: u32,
@@ -213,11 +269,11 @@ impl CallResult {
     {
         CallResult {
             number: number as u32,
-            place: place,
-            steps: steps,
-            firings: firings,
-            identifiers: identifiers,
-            stored: stored,
+            place,
+            steps,
+            firings,
+            identifiers,
+            stored,
         }
     }
 
@@ -225,7 +281,19 @@ impl CallResult {
     pub fn refusal(number: u8, place: u32) -> CallResult
         ensures { result ≡ refusal number place }
     {
-        CallResult::new(number, place, 0, 0, 0, 0)
+        CallResult {
+            number: number as u32,
+            place,
+            ..CallResult::default()
+        }
+    }
+}
+
+impl From<Refusal> for CallResult {
+    ghost from_gives = { λ r c. c ≡ refused_result r };
+
+    fn from(r: Refusal) -> CallResult {
+        CallResult::refusal(r.reason.number(), r.place)
     }
 }
 

@@ -1,4 +1,5 @@
 // The calls for a C host, thin over the proved library. A slice is C's pointer and length; include/nadhirukh.h declares them.
+// Kept: words and lengths go to lent arrays of numbers, as the header declares them.
 #![tactic(auto)]
 
 ghost use Rattle.model.specs.Calls.{check_of, run_of, weigh_of};

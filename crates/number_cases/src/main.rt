@@ -6,126 +6,90 @@
 // of all where the number is 255. Kind 3 writes the value of the four bytes from 2 on at that place of eight zeros.
 #![tactic(auto)]
 
-use numbers::{Truth, Value};
-use printing::{put, put_signed, put_unsigned};
+use printing::Stream;
+use std::fmt::{self, Write};
 
-// The stream that a program reads.
-const STDIN_FILENO: i32 = 0;
+const CASE_LEN: usize = 12;
 
-const LAST_PLACE: usize = 18446744073709551615;
+// What an expression or a comparison came to.
+#[derive(Clone, Copy)]
+struct Shown<T>(Option<T>);
 
-fn put_bytes(s: &[u8]) {
-    let mut i = 0;
-    while i < s.len() {
-        put(b" ");
-        put_unsigned(wire::byte(s, i) as u64);
-        i += 1;
+impl<T: fmt::Display> fmt::Display for Shown<T> {
+    fn fmt<W: fmt::Write>(&self, f: &mut fmt::Formatter<W>) -> fmt::Result {
+        match &self.0 {
+            Some(value) => write!(f, "{value}"),
+            None => write!(f, "undefined"),
+        }
     }
 }
 
-fn put_value(v: Value) {
-    match v {
-        Value::Number(n) => put_signed(n),
-        Value::Undefined => put(b"undefined"),
-    }
+fn side(tag: u8, v: i32) -> Option<i32> {
+    if tag == 0 { None } else { Some(v) }
 }
 
-fn put_truth(t: Truth) {
-    match t {
-        Truth::True => put(b"true"),
-        Truth::False => put(b"false"),
-        Truth::Undefined => put(b"undefined"),
-    }
+fn evaluate_case(out: &mut Stream, n: u8, left: Option<i32>, right: Option<i32>) -> fmt::Result {
+    let value = Shown(numbers::evaluate(n, left, right));
+    writeln!(
+        out,
+        "evaluate {n} {} {}: {value}",
+        Shown(left),
+        Shown(right)
+    )
 }
 
-fn side(tag: u8, v: i32) -> Value {
-    if tag == 0 {
-        return Value::Undefined;
-    }
-    Value::Number(v)
+fn compare_case(out: &mut Stream, n: u8, left: Option<i32>, right: Option<i32>) -> fmt::Result {
+    let truth = Shown(numbers::compare(n, left, right));
+    writeln!(out, "compare {n} {} {}: {truth}", Shown(left), Shown(right))
 }
 
-// The line up to the result: the name, the number and both sides.
-fn put_case(name: &[u8], number: u8, left: Value, right: Value) {
-    put(name);
-    put_unsigned(number as u64);
-    put(b" ");
-    put_value(left);
-    put(b" ");
-    put_value(right);
-    put(b": ");
-}
-
-fn evaluate_case(number: u8, left: Value, right: Value) {
-    put_case(b"evaluate ", number, left, right);
-    put_value(numbers::evaluate(number, left, right));
-}
-
-fn compare_case(number: u8, left: Value, right: Value) {
-    put_case(b"compare ", number, left, right);
-    put_truth(numbers::compare(number, left, right));
-}
-
-fn read_case(s: &[u8], number: u8) {
+fn read_case(out: &mut Stream, s: &[u8], number: u8) -> fmt::Result {
     let at = if number == 255 {
-        LAST_PLACE
+        usize::MAX
     } else {
         number as usize
     };
-    put(b"read ");
-    put_unsigned(at as u64);
-    put(b": ");
-    put_unsigned(wire::byte(s, at) as u64);
-    put(b" ");
-    put_unsigned(wire::read_u32(s, at) as u64);
-    put(b" ");
-    put_signed(wire::read_i32(s, at));
+    let byte = wire::byte(s, at);
+    let unsigned = wire::read_u32(s, at);
+    let signed = wire::read_i32(s, at);
+    writeln!(out, "read {at}: {byte} {unsigned} {signed}")
 }
 
-fn write_case(number: u8, v: i32) {
+fn write_case(out: &mut Stream, number: u8, v: i32) -> fmt::Result {
     if 4 < number {
-        return;
+        return out.write("\n");
     }
     let at = number as usize;
-    let mut words = [0u8; 8];
+    let mut words = [0; 8];
     wire::write_i32(&mut words, at, v);
-    put(b"write ");
-    put_unsigned(at as u64);
-    put(b" ");
-    put_signed(v);
-    put(b":");
-    put_bytes(&words);
-    put(b" ");
-    put_signed(wire::i32_within(&words, at));
+    write!(out, "write {at} {v}:")?;
+    for byte in words {
+        write!(out, " {byte}")?;
+    }
+    writeln!(out, " {}", wire::i32_within(&words, at))
 }
 
-fn run_case(s: &[u8]) {
+fn run_case(out: &mut Stream, s: &[u8]) -> fmt::Result {
     let number = wire::byte(s, 1);
     let left = side(wire::byte(s, 2), wire::read_i32(s, 3));
     let right = side(wire::byte(s, 7), wire::read_i32(s, 8));
     match wire::byte(s, 0) {
-        0 => evaluate_case(number, left, right),
-        1 => compare_case(number, left, right),
-        2 => read_case(s, number),
-        _ => write_case(number, wire::read_i32(s, 2)),
+        0 => evaluate_case(out, number, left, right),
+        1 => compare_case(out, number, left, right),
+        2 => read_case(out, s, number),
+        _ => write_case(out, number, wire::read_i32(s, 2)),
     }
-    put(b"\n");
 }
 
-fn run_cases(s: &[u8]) {
-    let mut at = 0;
-    while at < s.len() {
-        if s.len() - at < 12 {
-            return;
-        }
-        let end = at + 12;
-        run_case(&s[at..end]);
-        at = end;
+fn run(out: &mut Stream) -> fmt::Result {
+    let mut space = io::large_buffer();
+    let n = io::read_full(Stream::INPUT, &mut space);
+    for case in space[..n].chunks_exact(CASE_LEN) {
+        run_case(out, case)?;
     }
+    Ok(())
 }
 
 fn main() {
-    let mut space = io::large_buffer();
-    let n = io::read_full(STDIN_FILENO, &mut space);
-    run_cases(&space[..n]);
+    let _ = run(&mut Stream::output());
 }

@@ -13,7 +13,7 @@ use lib.Dec.{T, leb→le, le→leb, ltb→lt, lt→ltb}
 use lib.IntN.{ℤ, pos, negsuc, neg_ℤ, ◌+ℤ◌, ◌-ℤ◌, ◌*ℤ◌, neg_ℤ-neg_ℤ, neg_ℤ-+ℤ, +ℤ_comm, +ℤ-neg_ℤ_cancel}
 use lib.Signed.{mag, lt_z, le_z, ◌≤ℤ◌, ◌<ℤ◌}
 use borrow.Author.Tests.{lt-ltb}
-use Rattle.numbers.specs.declared.Value.TheVariants.{Number, Undefined}
+use Rattle.std.specs.Prelude.{Some, None}
 use Rattle.numbers.specs.Numbers.{lowest, highest, in_range, exact, equal, unless_zero, down, floor_z, mod_z, quotient_of, remainder_of}
 use Rattle.numbers.proofs.Laws.{InRange, pos-ranged, negsuc-ranged, exact-number, unless-other}
 
@@ -240,22 +240,22 @@ left-ranged b (pos r) (below h k) i = pos-ranged r (omega (arith, leb→le r 0 k
 left-ranged (pos b) (negsuc r) (below h k) i = absurd h.lt
 left-ranged (negsuc b) (negsuc r) (below h k) i = negsuc-ranged r (omega (arith, ltb→lt r b h.lt, leb→le b (mag lowest) i.low.le))
 
-pub remainder-number : (a b q r : ℤ) → Division a b q r → InRange b → remainder_of a b ≡ Number r
+pub remainder-number : (a b q r : ℤ) → Division a b q r → InRange b → remainder_of a b ≡ Some r
 remainder-number a b q r d i = remainder-is a b q r d ∙ exact-number (left-ranged b r d.left i)
 
 -- where there is a quotient there is a remainder, and the two divide
 pub record Divided (a b q : ℤ) : Type 0 where
   pub r : ℤ
-  pub remainder : remainder_of a b ≡ Number r
+  pub remainder : remainder_of a b ≡ Some r
   pub divides : Division a b q r
 
-exact-is : (t : Bool) (z w : ℤ) → cond t (Number z) Undefined ≡ Number w → z ≡ w
+exact-is : (t : Bool) (z w : ℤ) → cond t (Some z) None ≡ Some w → z ≡ w
 exact-is true z w e = cc
-exact-is false z w e = absurd (let o : ◌≡◌ {A = ℕ} 0 1 = cc in omega arith)
+exact-is false z w e = absurd cc
 
-quotient-cond : (t : Bool) (a b q : ℤ) → InRange b → equal b (pos 0) ≡ t → cond t Undefined (exact (floor_z a b)) ≡ Number q → Divided a b q
+quotient-cond : (t : Bool) (a b q : ℤ) → InRange b → equal b (pos 0) ≡ t → cond t None (exact (floor_z a b)) ≡ Some q → Divided a b q
 unfolding exact
-quotient-cond true a b q i z e = absurd (let o : ◌≡◌ {A = ℕ} 0 1 = cc in omega arith)
+quotient-cond true a b q i z e = absurd cc
 quotient-cond false a b q i z e =
     let other : b ≢ pos 0 = λ k. subst T (sym (ap (λ (x : ℤ). equal x (pos 0)) k) ∙ z) tt in
     let d = division a b other in
@@ -265,7 +265,7 @@ quotient-cond false a b q i z e =
       divides = subst (λ (x : ℤ). Division a b x (mod_z a b)) (exact-is (in_range (floor_z a b)) (floor_z a b) q e) d;
     }
 
-pub quotient-remainder : (a b q : ℤ) → InRange b → quotient_of a b ≡ Number q → Divided a b q
+pub quotient-remainder : (a b q : ℤ) → InRange b → quotient_of a b ≡ Some q → Divided a b q
 unfolding quotient_of unless_zero
 quotient-remainder a b q i e = quotient-cond (equal b (pos 0)) a b q i refl e
 
@@ -288,9 +288,9 @@ floor-ranged (negsuc n) (negsuc zero) i h =
 floor-ranged (negsuc n) (negsuc (suc b)) i h =
     pos-ranged (suc n / suc (suc b)) (omega (arith, halved (suc n) b (omega arith), leb→le n (mag lowest) i.low.le))
 
-pub every-quotient : (a b : ℤ) → InRange a → b ≢ pos 0 → (a ≡ lowest → b ≡ negsuc 0 → ⊥) → quotient_of a b ≡ Number (floor_z a b)
+pub every-quotient : (a b : ℤ) → InRange a → b ≢ pos 0 → (a ≡ lowest → b ≡ negsuc 0 → ⊥) → quotient_of a b ≡ Some (floor_z a b)
 unfolding quotient_of
 every-quotient a b i o h = unless-other b (exact (floor_z a b)) o ∙ exact-number (floor-ranged a b i h)
 
-pub every-remainder : (a b : ℤ) → InRange b → b ≢ pos 0 → remainder_of a b ≡ Number (mod_z a b)
+pub every-remainder : (a b : ℤ) → InRange b → b ≢ pos 0 → remainder_of a b ≡ Some (mod_z a b)
 every-remainder a b i o = remainder-number a b (floor_z a b) (mod_z a b) (division a b o) i

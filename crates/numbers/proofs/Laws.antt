@@ -6,10 +6,8 @@ use Rattle.std.proofs.Common.{sym, ap, subst, arith, leb→le, le→leb, SFits, 
 use Rattle.std.specs.Int.Signed.{mag, le_z}
 use Rattle.std.specs.Int.{w32}
 use Rattle.std.proofs.lemmas.Bool.{lt-leb}
-use Rattle.numbers.specs.declared.Value.{Value}
-use Rattle.numbers.specs.declared.Value.TheVariants.{Number, Undefined}
-use Rattle.numbers.specs.declared.Truth.TheVariants.{Undefined as Unknown}
-use Rattle.numbers.specs.Numbers.{lowest, highest, in_range, exact, equal, unless_zero, sum_of, difference_of, product_of, quotient_of, remainder_of}
+use Rattle.std.specs.Prelude.{Option, Some, None}
+use Rattle.numbers.specs.Numbers.{lowest, highest, in_range, exact, equal, unless_zero, quotient_of, remainder_of}
 use Rattle.numbers.specs.Numbers.{operate, on_numbers, evaluate, judge, compare}
 pub use Rattle.numbers.specs.Laws.{InRange, Ranged}
 
@@ -35,27 +33,27 @@ both true true e = (tt, tt)
 both true false e = absurd (subst T (sym e) tt)
 both false t e = absurd (subst T (sym e) tt)
 
-in-range : (z : ℤ) → in_range z ≡ true → InRange z
+pub in-range : (z : ℤ) → in_range z ≡ true → InRange z
 unfolding in_range
 in-range z e = let h = both (le_z lowest z) (le_z z highest) e in record { low = record { le = h.0 }; high = record { le = h.1 } }
 
 -- and a number that lies in the range is its own exact value
-pub exact-number : {z : ℤ} → InRange z → exact z ≡ Number z
+pub exact-number : {z : ℤ} → InRange z → exact z ≡ Some z
 unfolding exact in_range
 exact-number {z = pos n} r = simp (le-leb n (mag highest) (leb→le n (mag highest) r.high.le)) refl
 exact-number {z = negsuc n} r = simp (le-leb n (mag lowest) (leb→le n (mag lowest) r.low.le)) refl
 
-pub ranged-number : {z : ℤ} → InRange z → Ranged (Number z)
+pub ranged-number : {z : ℤ} → InRange z → Ranged (Some z)
 ranged-number {z} r = record { number = λ w e. let same : z ≡ w = cc in subst InRange same r }
 
-pub ranged-undefined : Ranged Undefined
-ranged-undefined = record { number = λ w e. absurd (let z : ◌≡◌ {A = ℕ} 0 1 = cc in omega arith) }
+pub ranged-undefined : Ranged None
+ranged-undefined = record { number = λ w e. absurd cc }
 
-ranged-cond : (t : Bool) {x y : Value} → Ranged x → Ranged y → Ranged (cond t x y)
+ranged-cond : (t : Bool) {x y : Option ℤ} → Ranged x → Ranged y → Ranged (cond t x y)
 ranged-cond true p q = p
 ranged-cond false p q = q
 
-ranged-test : (t : Bool) (z : ℤ) → in_range z ≡ t → Ranged (cond t (Number z) Undefined)
+ranged-test : (t : Bool) (z : ℤ) → in_range z ≡ t → Ranged (cond t (Some z) None)
 ranged-test true z e = ranged-number (in-range z e)
 ranged-test false z e = ranged-undefined
 
@@ -64,7 +62,7 @@ unfolding exact
 exact-ranged z = ranged-test (in_range z) z refl
 
 -- by a divisor other than 0 a division has the value that it says
-pub unless-other : (b : ℤ) (v : Value) → b ≢ pos 0 → unless_zero b v ≡ v
+pub unless-other : (b : ℤ) (v : Option ℤ) → b ≢ pos 0 → unless_zero b v ≡ v
 unfolding unless_zero
 unless-other (pos zero) v h = absurd (h refl)
 unless-other (pos (suc b)) v h = simp (ne_eqb (suc b) 0 (λ (e : suc b ≡ 0). omega arith)) refl
@@ -75,7 +73,7 @@ unfolding unless_zero
 divided-ranged b z = ranged-cond (equal b (pos 0)) ranged-undefined (exact-ranged z)
 
 pub operate-ranged : (op : ℕ) (a b : ℤ) → InRange a → Ranged (operate op a b)
-unfolding operate sum_of difference_of product_of quotient_of remainder_of
+unfolding operate quotient_of remainder_of
 operate-ranged op a b r =
     ranged-cond (eqb op 0) (ranged-number r)
     (ranged-cond (eqb op 1) (exact-ranged _)
@@ -84,13 +82,13 @@ operate-ranged op a b r =
     (ranged-cond (eqb op 4) (divided-ranged b _)
     (ranged-cond (eqb op 5) (divided-ranged b _) ranged-undefined)))))
 
-ranged-numbers : (op : ℕ) (left right : Value) → Ranged left → Ranged (on_numbers (operate op) left right)
+ranged-numbers : (op : ℕ) (left right : Option ℤ) → Ranged left → Ranged (on_numbers (operate op) left right)
 unfolding on_numbers
-ranged-numbers op (Number a) (Number b) r = operate-ranged op a b (r.number a refl)
-ranged-numbers op (Number a) Undefined r = ranged-undefined
-ranged-numbers op Undefined right r = ranged-undefined
+ranged-numbers op (Some a) (Some b) r = operate-ranged op a b (r.number a refl)
+ranged-numbers op (Some a) None r = ranged-undefined
+ranged-numbers op None right r = ranged-undefined
 
-pub evaluate-ranged : (op : ℕ) (left right : Value) → Ranged left → Ranged (evaluate op left right)
+pub evaluate-ranged : (op : ℕ) (left right : Option ℤ) → Ranged left → Ranged (evaluate op left right)
 unfolding evaluate
 evaluate-ranged op left right r = ranged-cond (eqb op 0) r (ranged-numbers op left right r)
 
@@ -107,8 +105,8 @@ equal-is (negsuc a) (pos b) e = absurd (subst T (sym e) tt)
 equal-is (negsuc a) (negsuc b) e = ap negsuc (eqb-true a b e)
 
 -- a number that is no comparator answers neither true nor false
-pub no-comparator : (cmp : ℕ) (left right : Value) → 5 < cmp → compare cmp left right ≡ Unknown
+pub no-comparator : (cmp : ℕ) (left right : Option ℤ) → 5 < cmp → compare cmp left right ≡ None
 unfolding compare judge
-no-comparator cmp (Number a) (Number b) h = simp (lt-leb cmp 5 h)
-no-comparator cmp (Number a) Undefined h = refl
-no-comparator cmp Undefined right h = refl
+no-comparator cmp (Some a) (Some b) h = simp (lt-leb cmp 5 h)
+no-comparator cmp (Some a) None h = refl
+no-comparator cmp None right h = refl

@@ -2,15 +2,13 @@
 -- then cut, and its quotient is mirrored back: that is `down`, clause by clause. By a divisor below 0 both signs are turned first: that is `floor_z`.
 use mathlib.Core.Path.{◌≡◌, refl, sym, ap, ◌∙◌}
 use mathlib.Core.Bool.{Bool, true, false, cond}
-use mathlib.Core.Logic.{◌≢◌}
-use Prim.Native.Nat.{ℕ, zero, suc, ◌/◌, ◌≤◌, ◌<◌}
+use Prim.Native.Nat.{ℕ, zero, suc, ◌/◌, ◌≤◌}
 use native.Mathlib.Nat.{div-le_self}
 use native.Mathlib.Omega.{arith}
-use lib.IntN.{ℤ, pos, negsuc, neg_ℤ, nat_abs, ◌-ℤ◌, ◌*ℤ◌, +ℤ_idl}
-use lib.Dec.{T}
-use lib.Signed.{mag, lt_z, non_neg}
+use lib.IntN.{ℤ, pos, negsuc, neg_ℤ, nat_abs, ◌-ℤ◌, ◌*ℤ◌}
+use lib.Signed.{mag, lt_z}
 use mir.Syntax.{w32, w64}
-use mir.Val.{SFits, Fits, to_z, of_z}
+use mir.Val.{SFits, to_z, of_z}
 use mir.Facts.{to_z-of_z}
 use borrow.Author.Tests.{le-ltb}
 use Rattle.numbers.specs.Numbers.{exact, down, floor_z, mod_z}
@@ -28,11 +26,6 @@ mirror across x = cond across (negsuc 0 -ℤ x) x
 
 above-zero : (n : ℕ) → lt_z (pos n) (pos 0) ≡ false
 above-zero n = le-ltb n 0 (omega arith)
-
--- the divisor's size
-pub size : (b : ℤ) → turn b b ≡ pos (nat_abs b)
-size (pos n) = simp (above-zero n) refl
-size (negsuc n) = refl
 
 across-pos : (n : ℕ) → negsuc 0 -ℤ pos n ≡ negsuc n
 across-pos zero = refl
@@ -58,28 +51,12 @@ floor-turned a (negsuc n) = refl
 
 -- ---- how large they are
 
-mag-across : (x : ℤ) → mag (negsuc 0 -ℤ x) ≡ mag x
-mag-across (pos n) = ap mag (across-pos n)
-mag-across (negsuc n) = ap mag (across-negsuc n)
-
--- across from a number of 64 bits lies one
-pub across-fits : {x : ℤ} → SFits w64 x → SFits w64 (negsuc 0 -ℤ x)
-across-fits {x} f = record { sfits = omega (arith, mag-across x, f.sfits) }
-
--- a number of 32 bits with its sign turned
-pub turned-fits : {x : ℤ} → SFits w32 x → SFits w64 (pos 0 -ℤ x)
-turned-fits {x} f = rw (+ℤ_idl (neg_ℤ x)) (record { sfits = omega (arith, mag-negate x, f.sfits) })
-
 turn-small : (b x : ℤ) → SFits w32 x → mag (turn b x) ≤ 2147483648
 turn-small b x f = go (lt_z b (pos 0))
   where
     go : (t : Bool) → mag (cond t (neg_ℤ x) x) ≤ 2147483648
     go true = omega (arith, mag-negate x, f.sfits)
     go false = omega (arith, f.sfits)
-
-size-small : {b : ℤ} → SFits w32 b → nat_abs b ≤ 2147483648
-size-small {b = pos n} f = omega (arith, f.sfits)
-size-small {b = negsuc n} f = omega (arith, f.sfits)
 
 mag-down : (x : ℤ) (d : ℕ) → mag (down x d) ≤ mag x
 mag-down (pos n) d = div-le_self n d
@@ -104,10 +81,6 @@ pub record Plain (z : ℤ) (n : ℕ) : Type 0 where
 read-plain : {z : ℤ} {n : ℕ} → Plain z n → read z ≡ pos n
 read-plain {z} {n} p = let f : SFits w64 (pos n) = record { sfits = omega (arith, p.small) } in ap read p.is ∙ to_z-of_z f
 
--- it goes to 32 bits without a sign
-pub to-unsigned : {z : ℤ} {n : ℕ} → Plain z n → T (non_neg (read z)) × Fits w32 (nat_abs (read z))
-to-unsigned p = rw (read-plain p) (tt, record { fits = omega (arith, p.small) })
-
 module _ {a b up : ℤ} (fa : SFits w32 a) (fb : SFits w32 b) (turned : up ≡ turn (to_z w32 (of_z w32 b)) (to_z w32 (of_z w32 a))) where
   up-is : up ≡ turn b a
   up-is = turned ∙ rw (to_z-of_z fa, to_z-of_z fb) refl
@@ -123,31 +96,14 @@ module _ {a b up : ℤ} (fa : SFits w32 a) (fb : SFits w32 b) (turned : up ≡ t
       let is : r ≡ floor_z a b = e ∙ rw (read-up, read-plain p) (mirrored-back (turn b a) (nat_abs b)) ∙ sym (floor-turned a b) in
       ap read is ∙ to_z-of_z (floor-fits a b fa)
 
-pub divisor-is : {b s : ℤ} → SFits w32 b → s ≡ turn (to_z w32 (of_z w32 b)) (to_z w32 (of_z w32 b)) → Plain s (nat_abs b)
-divisor-is {b} {s} f e = record { is = e ∙ rw (to_z-of_z f) (size b); small = size-small f }
+pub quotient-plain : {m : ℤ} {n d e : ℕ} → Plain m n → e ≡ d → Plain (pos (nat_abs (read m) / e)) (n / d)
+quotient-plain {m} {n} {d} {e} p q = record { is = rw (read-plain p, q) refl; small = omega (arith, div-le_self n d, p.small) }
 
-pub divisor-above : {b s : ℤ} → b ≢ pos 0 → Plain s (nat_abs b) → 0 < nat_abs (read s)
-divisor-above {b} h p = rw (read-plain p) (go b h)
-  where
-    go : (b : ℤ) → b ≢ pos 0 → 0 < nat_abs b
-    go (pos zero) h = absurd (h refl)
-    go (pos (suc n)) h = omega arith
-    go (negsuc n) h = omega arith
-
-pub quotient-plain : {m s : ℤ} {n d : ℕ} → Plain m n → Plain s d → Plain (pos (nat_abs (read m) / nat_abs (read s))) (n / d)
-quotient-plain {m} {s} {n} {d} p q = record { is = rw (read-plain p, read-plain q) refl; small = omega (arith, div-le_self n d, p.small) }
-
-pub plain-fits : {z : ℤ} {n : ℕ} → Plain z n → SFits w64 z
-plain-fits p = rw p.is (record { sfits = omega (arith, p.small) })
-
--- ---- quotient and remainder, from the number that `floor` gave
+-- ---- the remainder, from the number that `floor` gave
 
 module _ {a b q : ℤ} (fa : SFits w32 a) (fb : SFits w32 b) (e : q ≡ floor_z (to_z w32 (of_z w32 a)) (to_z w32 (of_z w32 b))) where
   read-floor : read q ≡ floor_z a b
   read-floor = let is : q ≡ floor_z a b = e ∙ rw (to_z-of_z fa, to_z-of_z fb) refl in ap read is ∙ to_z-of_z (floor-fits a b fa)
-
-  pub quotient-exact : exact (read q) ≡ exact (floor_z a b)
-  quotient-exact = ap exact read-floor
 
   times-small : mag (b *ℤ floor_z a b) ≤ 4611686022722355201
   times-small = mag-prod b (floor_z a b) (omega (arith, fb.sfits)) (floor-small a b fa)

@@ -1,10 +1,7 @@
--- The definition: what an expression and a comparison come to, over the whole numbers.
-use Rattle.std.specs.Prelude.{Bool, true, false, not, cond, ◌&&◌, ℕ, suc, ◌/◌, eqb, leb, ℤ, pos, negsuc, neg_ℤ, ◌+ℤ◌, ◌-ℤ◌, ◌*ℤ◌}
+-- The definition: what an expression and a comparison come to, over the whole numbers. `None` is: undefined.
+use Rattle.std.specs.Prelude.{Bool, false, not, cond, ◌&&◌, ℕ, suc, ◌/◌, eqb, leb, ℤ, pos, negsuc, neg_ℤ, ◌+ℤ◌, ◌-ℤ◌, ◌*ℤ◌}
+use Rattle.std.specs.Prelude.{Option, Some, None}
 use Rattle.std.specs.Int.Signed.{lt_z, le_z}
-use Rattle.numbers.specs.declared.Value.{Value}
-use Rattle.numbers.specs.declared.Value.TheVariants.{Number, Undefined}
-use Rattle.numbers.specs.declared.Truth.{Truth}
-use Rattle.numbers.specs.declared.Truth.TheVariants.{True, False, Undefined as Unknown}
 
 -- ---- the range: "-2,147,483,648..2,147,483,647". `negsuc n` is -(n + 1)
 
@@ -18,8 +15,8 @@ unfoldable pub in_range : ℤ → Bool
 in_range z = le_z lowest z && le_z z highest
 
 -- "Each operation is exact; its value is undefined if it lies outside" the range
-unfoldable pub exact : ℤ → Value
-exact z = cond (in_range z) (Number z) Undefined
+unfoldable pub exact : ℤ → Option ℤ
+exact z = cond (in_range z) (Some z) None
 
 -- ---- the operations
 
@@ -31,16 +28,16 @@ equal (negsuc a) (pos b) = false
 equal (negsuc a) (negsuc b) = eqb a b
 
 -- "its value is undefined if .. the divisor is 0"
-unfoldable pub unless_zero : ℤ → Value → Value
-unless_zero b v = cond (equal b (pos 0)) Undefined v
+unfoldable pub unless_zero : ℤ → Option ℤ → Option ℤ
+unless_zero b v = cond (equal b (pos 0)) None v
 
-unfoldable pub sum_of : ℤ → ℤ → Value
+abbrev pub sum_of : ℤ → ℤ → Option ℤ
 sum_of a b = exact (a +ℤ b)
 
-unfoldable pub difference_of : ℤ → ℤ → Value
+abbrev pub difference_of : ℤ → ℤ → Option ℤ
 difference_of a b = exact (a -ℤ b)
 
-unfoldable pub product_of : ℤ → ℤ → Value
+abbrev pub product_of : ℤ → ℤ → Option ℤ
 product_of a b = exact (a *ℤ b)
 
 -- by a divisor above 0, rounded down; `negsuc n`, which is -(n + 1), by d comes to -(n / d + 1)
@@ -57,32 +54,32 @@ floor_z a (negsuc b) = down (neg_ℤ a) (suc b)
 unfoldable pub mod_z : ℤ → ℤ → ℤ
 mod_z a b = a -ℤ b *ℤ floor_z a b
 
-unfoldable pub quotient_of : ℤ → ℤ → Value
+unfoldable pub quotient_of : ℤ → ℤ → Option ℤ
 quotient_of a b = unless_zero b (exact (floor_z a b))
 
-unfoldable pub remainder_of : ℤ → ℤ → Value
+unfoldable pub remainder_of : ℤ → ℤ → Option ℤ
 remainder_of a b = unless_zero b (exact (mod_z a b))
 
 -- ---- expressions: "An expression is an operation byte and two slots"
 
 -- "0 the first slot alone .., 1 sum, 2 difference, 3 product, 4 quotient, 5 remainder"; no other number is an operation
-unfoldable pub operate : ℕ → ℤ → ℤ → Value
+unfoldable pub operate : ℕ → ℤ → ℤ → Option ℤ
 operate op a b =
-    cond (eqb op 0) (Number a)
+    cond (eqb op 0) (Some a)
     (cond (eqb op 1) (sum_of a b)
     (cond (eqb op 2) (difference_of a b)
     (cond (eqb op 3) (product_of a b)
     (cond (eqb op 4) (quotient_of a b)
-    (cond (eqb op 5) (remainder_of a b) Undefined)))))
+    (cond (eqb op 5) (remainder_of a b) None)))))
 
 -- f of two values that are both numbers; of an undefined value nothing is known
-unfoldable pub on_numbers : (ℤ → ℤ → Value) → Value → Value → Value
-on_numbers f (Number a) (Number b) = f a b
-on_numbers f (Number a) Undefined = Undefined
-on_numbers f Undefined right = Undefined
+unfoldable pub on_numbers : (ℤ → ℤ → Option ℤ) → Option ℤ → Option ℤ → Option ℤ
+on_numbers f (Some a) (Some b) = f a b
+on_numbers f (Some a) None = None
+on_numbers f None right = None
 
 -- the operation on what its two slots hold; of "the first slot alone" the second is not looked at
-unfoldable pub evaluate : ℕ → Value → Value → Value
+unfoldable pub evaluate : ℕ → Option ℤ → Option ℤ → Option ℤ
 evaluate op left right = cond (eqb op 0) left (on_numbers (operate op) left right)
 
 -- ---- comparisons: "Comparators 0..5: equal, unequal, less, at most, greater, at least"
@@ -96,16 +93,12 @@ holds cmp a b =
     (cond (eqb cmp 4) (lt_z b a)
     (cond (eqb cmp 5) (le_z b a) false)))))
 
-abbrev pub told : Bool → Truth
-told true = True
-told false = False
-
 -- no other number is a comparator: what it would say is undefined, and not false
-unfoldable pub judge : ℕ → ℤ → ℤ → Truth
-judge cmp a b = cond (leb cmp 5) (told (holds cmp a b)) Unknown
+unfoldable pub judge : ℕ → ℤ → ℤ → Option Bool
+judge cmp a b = cond (leb cmp 5) (Some (holds cmp a b)) None
 
 -- "if it has an undefined side, the guard is undefined"
-unfoldable pub compare : ℕ → Value → Value → Truth
-compare cmp (Number a) (Number b) = judge cmp a b
-compare cmp (Number a) Undefined = Unknown
-compare cmp Undefined right = Unknown
+unfoldable pub compare : ℕ → Option ℤ → Option ℤ → Option Bool
+compare cmp (Some a) (Some b) = judge cmp a b
+compare cmp (Some a) None = None
+compare cmp None right = None

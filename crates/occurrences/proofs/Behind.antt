@@ -3,11 +3,11 @@
 use Prim.Native.Nat.{ℕ, zero, suc, ◌-◌, ◌<◌, ◌≤◌}
 use mathlib.Core.Path.{◌≡◌, refl, sym, ap, ◌∙◌}
 use mathlib.Core.Bool.{Bool, true, false}
-use mathlib.Core.Option.{some}
+use Rattle.std.specs.Prelude.{Some, slice_get}
 use mathlib.Core.List.{List, [], ◌∷◌, ◌++◌}
 use native.Mathlib.Omega.{arith}
 use lib.Dec.{ltb}
-use lib.ListN.{length, take, drop, get_elem?}
+use lib.ListN.{length, take, drop}
 use lib.Seq.{drop-append-le}
 use borrow.Author.Tests.{ltb-true, ltb-false}
 use Rattle.model.specs.declared.Symbol.{Symbol}
@@ -27,7 +27,7 @@ record BehindHead (s : Symbol) (n k : ℕ) (hs : List Head) (left : List HeadPla
   from : k ≤ p.head
   rest : left ≡ places_in s n k (take (p.head - k) hs)
 
-only-one : (b : Bool) (i n k : ℕ) (p : HeadPlace) → get_elem? (place_if b (place n k)) i ≡ some p → (i ≡ 0) × (place n k ≡ p) × (b ≡ true)
+only-one : (b : Bool) (i n k : ℕ) (p : HeadPlace) → slice_get (place_if b (place n k)) i ≡ Some p → (i ≡ 0) × (place n k ≡ p) × (b ≡ true)
 only-one true zero n k p e = (refl, cc, refl)
 only-one true (suc i) n k p e = absurd (let w : ◌≡◌ {A = ℕ} 0 1 = cc in omega arith)
 only-one false i n k p e = absurd (let w : ◌≡◌ {A = ℕ} 0 1 = cc in omega arith)
@@ -40,8 +40,8 @@ module _ (s : Symbol) (n k : ℕ) (h : Head) (hs : List Head) (c : ℕ) (p : Hea
   abbrev its : List HeadPlace
   its = place_if (same_symbol h.symbol s) (place n k)
 
-  behind-first : (b : Bool) → ltb c (length others) ≡ b → get_elem? (others ++ its) c ≡ some p
-      → (get_elem? others c ≡ some p → BehindHead s n (suc k) hs (drop (suc c) others) p)
+  behind-first : (b : Bool) → ltb c (length others) ≡ b → slice_get (others ++ its) c ≡ Some p
+      → (slice_get others c ≡ Some p → BehindHead s n (suc k) hs (drop (suc c) others) p)
       → BehindHead s n k (h ∷ hs) (drop (suc c) (others ++ its)) p
   unfolding places_in
   behind-first true q e more =
@@ -65,7 +65,7 @@ module _ (s : Symbol) (n k : ℕ) (h : Head) (hs : List Head) (c : ℕ) (p : Hea
         rest = drop-second others its (suc c) (omega arith) ∙ rw (m, w.2, z) refl;
       }
 
-behind-head : (s : Symbol) (n k : ℕ) (hs : List Head) (c : ℕ) (p : HeadPlace) → get_elem? (places_in s n k hs) c ≡ some p
+behind-head : (s : Symbol) (n k : ℕ) (hs : List Head) (c : ℕ) (p : HeadPlace) → slice_get (places_in s n k hs) c ≡ Some p
     → BehindHead s n k hs (drop (suc c) (places_in s n k hs)) p
 unfolding places_in
 behind-head s n k [] c p e = absurd (let w : ◌≡◌ {A = ℕ} 0 1 = cc in omega arith)
@@ -85,8 +85,8 @@ module _ (s : Symbol) (n : ℕ) (r : Rule) (rs : List Rule) (c : ℕ) (p : HeadP
   abbrev later : List HeadPlace
   later = places_from s (suc n) rs
 
-  behind-own : (b : Bool) → ltb c (length own-places) ≡ b → get_elem? (own-places ++ later) c ≡ some p
-      → (get_elem? later (c - length own-places) ≡ some p → BehindRule s (suc n) rs (drop (suc (c - length own-places)) later) p)
+  behind-own : (b : Bool) → ltb c (length own-places) ≡ b → slice_get (own-places ++ later) c ≡ Some p
+      → (slice_get later (c - length own-places) ≡ Some p → BehindRule s (suc n) rs (drop (suc (c - length own-places)) later) p)
       → BehindRule s n (r ∷ rs) (drop (suc c) (own-places ++ later)) p
   unfolding left_from
   behind-own true q e more =
@@ -108,7 +108,7 @@ module _ (s : Symbol) (n : ℕ) (r : Rule) (rs : List Rule) (c : ℕ) (p : HeadP
         rest = drop-second own-places later (suc c) (omega arith) ∙ ap (λ (x : ℕ). drop x later) m ∙ w.rest ∙ rw z refl;
       }
 
-behind-rule : (s : Symbol) (n : ℕ) (rs : List Rule) (c : ℕ) (p : HeadPlace) → get_elem? (places_from s n rs) c ≡ some p
+behind-rule : (s : Symbol) (n : ℕ) (rs : List Rule) (c : ℕ) (p : HeadPlace) → slice_get (places_from s n rs) c ≡ Some p
     → BehindRule s n rs (drop (suc c) (places_from s n rs)) p
 unfolding places_from
 behind-rule s n [] c p e = absurd (let w : ◌≡◌ {A = ℕ} 0 1 = cc in omega arith)
@@ -116,7 +116,7 @@ behind-rule s n (r ∷ rs) c p e =
     behind-own s n r rs c p (ltb c (length (places_in s n 0 (heads r)))) refl e (behind-rule s (suc n) rs (c - length (places_in s n 0 (heads r))) p)
 
 -- behind the place with index c
-pub behind-place : (t : Table) (s : Symbol) (c : ℕ) (p : HeadPlace) → get_elem? (places t s) c ≡ some p
+pub behind-place : (t : Table) (s : Symbol) (c : ℕ) (p : HeadPlace) → slice_get (places t s) c ≡ Some p
     → drop (suc c) (places t s) ≡ places_left t s p.rule.0 p.head
 unfolding places places_left
 behind-place t s c p e =

@@ -1,5 +1,5 @@
-pub mod Elements
 pub mod Behind
-pub mod Marks
 pub mod Counting
+pub mod Elements
+pub mod Marks
 pub mod Only

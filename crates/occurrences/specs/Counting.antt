@@ -1,25 +1,16 @@
 -- How occurrences are counted through the rule heads, and what a run's mark says.
-use Rattle.std.specs.Prelude.{ℕ, suc, ◌-◌, ◌<◌, ◌≤◌, ◌≡◌, Bool, false, cond, List, [], ◌∷◌, ◌++◌, eqb, ltb, length, get_or, take, drop}
-use Rattle.std.proofs.Math.Option.{Option, none, some}
-use Rattle.std.proofs.Math.ListN.{get_elem?}
+use Rattle.std.specs.Prelude.{ℕ, suc, ◌-◌, ◌<◌, ◌≤◌, ◌≡◌, List, [], ◌∷◌, ◌++◌, length, get_or, take, drop, Option, Some, None, slice_get}
+use Rattle.std.specs.declared.ops.ControlFlow.{ControlFlow}
+use Rattle.std.specs.declared.ops.ControlFlow.TheVariants.{Break, Continue}
 use Rattle.model.specs.declared.Symbol.{Symbol}
 use Rattle.model.specs.declared.Occurrence.{Occurrence}
 use Rattle.model.specs.declared.HeadPlace.{HeadPlace}
 use Rattle.model.specs.declared.RuleShape.{RuleShape}
-use Rattle.model.specs.declared.Verdict.TheVariants.{Good}
+use Rattle.std.specs.Prelude.{Ok}
 use Rattle.model.specs.Limits.{most_heads}
 use Rattle.model.specs.Reading.{read_of, no_shape}
 use Rattle.model.specs.Table.{Rule, Table, heads, heads_from, heads_start, guards_start, table_of, places_in, places_from, places}
-use Rattle.shapes.specs.Columns.{Laid}
-use Rattle.occurrences.specs.declared.Spot.{Spot}
-use Rattle.occurrences.specs.declared.Spot.TheVariants.{At, Nothing}
 use Rattle.occurrences.specs.declared.Mark.{Mark}
-use Rattle.occurrences.specs.declared.Look.{Look}
-use Rattle.occurrences.specs.declared.Look.TheVariants.{Found, Left}
-
-unfoldable pub found_place : Spot → Option HeadPlace
-found_place (At p) = some p
-found_place Nothing = none
 
 -- ---- what is left of a symbol's places
 
@@ -45,39 +36,31 @@ pub record HeadsLie (t : List ℕ) (r : RuleShape) (k : ℕ) : Type 0 where
   pub within : guards_start r ≤ length t
 
 -- what is found, where the rule has number n and `later` comes behind its heads
-unfoldable pub looked_at : ℕ → List HeadPlace → Look → Option HeadPlace
-looked_at n later (Found h) = some (record { rule = record { 0 = n }; head = h })
-looked_at n later (Left m) = get_elem? later m
+unfoldable pub looked_at : ℕ → List HeadPlace → ControlFlow ℕ ℕ → Option HeadPlace
+looked_at n later (Break h) = Some (record { rule = record { 0 = n }; head = h })
+looked_at n later (Continue m) = slice_get later m
 
 -- a look finds what stands behind `left` places of the first k heads and of what comes behind them, whatever the rule's number and whatever that is
-pub record Looked (t : List ℕ) (r : RuleShape) (k : ℕ) (s : Symbol) (left : ℕ) (look : Look) : Type 0 where
-  pub same : (n : ℕ) (later : List HeadPlace) → looked_at n later look ≡ get_elem? (places_in s n 0 (heads_from t (heads_start r) k) ++ later) left
+pub record Looked (t : List ℕ) (r : RuleShape) (k : ℕ) (s : Symbol) (left : ℕ) (look : ControlFlow ℕ ℕ) : Type 0 where
+  pub same : (n : ℕ) (later : List HeadPlace) → looked_at n later look ≡ slice_get (places_in s n 0 (heads_from t (heads_start r) k) ++ later) left
 
 -- ---- the mark
 
--- none is found yet
-abbrev pub no_mark : Mark
-no_mark = record { symbol = record { 0 = 0 }; occurrence = record { 0 = 0 }; place = record { rule = record { 0 = 0 }; head = 0 } }
+-- the mark after an answer about occurrence j: it moves to the place, where there is one
+abbrev pub mark_after : Option Mark → Symbol → Occurrence → Option HeadPlace → Option Mark
+mark_after mark s j (Some p) = Some (record { symbol = s; index = j.0 - 1; place = p })
+mark_after mark s j None = mark
 
-unfoldable pub mark_of : Mark → Symbol → Occurrence → Spot → Mark
-mark_of m s j (At p) = record { symbol = s; occurrence = j; place = p }
-mark_of m s j Nothing = m
-
--- a mark is on the place of the occurrence that it names
-pub record Marked (t : List ℕ) (m : Mark) : Type 0 where
-  pub here : 0 < m.occurrence.0 → get_elem? (places (table_of t) m.symbol) (m.occurrence.0 - 1) ≡ some m.place
-
--- whether it is on a place of s
-unfoldable pub is_on : Mark → Symbol → Bool
-is_on m s = cond (eqb m.symbol.0 s.0) (ltb 0 m.occurrence.0) false
+-- a mark is on the place that it names
+pub record Marked (t : List ℕ) (mark : Option Mark) : Type 0 where
+  pub here : (m : Mark) → mark ≡ Some m → slice_get (places (table_of t) m.symbol) m.index ≡ Some m.place
 
 -- ---- what counting asks
 
--- a good table, and its rules in the columns
-pub record Countable (t : List ℕ) (rules : ℕ) (starts parts : List ℕ) : Type 0 where
-  pub good : (read_of t).verdict ≡ Good
-  pub read : rules ≡ (read_of t).rules
-  pub laid : Laid rules (read_of t).shapes starts parts
+-- a good table, and where its rules stand
+pub record Countable (t : List ℕ) (shapes : List RuleShape) : Type 0 where
+  pub good : (read_of t).verdict ≡ Ok tt
+  pub laid : shapes ≡ take (read_of t).rules (read_of t).shapes
 
 -- a place is a head of the table
 pub record Standing (t : List ℕ) (p : HeadPlace) : Type 0 where

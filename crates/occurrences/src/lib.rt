@@ -3,188 +3,137 @@
 // that a fact's way over its occurrences passes each head once.
 #![tactic(auto)]
 
-ghost use Rattle.std.specs.Prelude.{◌≡◌, ◌-◌};
-ghost use Rattle.std.proofs.Math.ListN.{get_elem?};
+ghost use Rattle.std.specs.Prelude.{◌≡◌, ◌-◌, None, slice_get};
 ghost use Rattle.model.specs.Table.{table_of, places};
-ghost use Rattle.occurrences.specs.Counting.{found_place, places_behind, places_left, no_mark, mark_of, is_on, HeadsLie, Looked, Countable, Standing, Marked};
+ghost use Rattle.occurrences.specs.Counting.{places_behind, places_left, mark_after, HeadsLie, Looked, Countable, Standing, Marked};
 
-use model::{HeadPlace, Occurrence, RuleNumber, RuleShape, Symbol, Table};
+use model::{HeadPlace, Occurrence, RuleNumber, RuleShape, Symbol};
 use records::geometry;
 use records::geometry::HeadBytes;
+use std::ops::ControlFlow;
 
+// The rules of a good table: its bytes, and where its rules stand in them.
 #[derive(Clone, Copy)]
-pub enum Spot {
-    At(HeadPlace),
-    Nothing,
+pub struct Rules<'a> {
+    pub table: &'a [u8],
+    pub shapes: &'a [RuleShape],
+    ghost countable: { Countable table.now shapes.now },
 }
 
-// The occurrence found last, and its place. Occurrences count from 1; at 0 none is found yet.
+// The place found last: which of its symbol's, counted from 0.
 #[derive(Clone, Copy)]
 pub struct Mark {
     pub symbol: Symbol,
-    pub occurrence: Occurrence,
+    pub index: u16,
     pub place: HeadPlace,
 }
 
-// What counting comes to in a rule: the head that is asked for, or how many places are still to be passed behind it.
+impl Rules<'_> {
+    // Looks through the first k heads of a rule, from the last to the first, for the place behind `left` others: the head, or how many places
+    // are still to be passed behind it.
+    fn in_rule(
+        &self,
+        shape: RuleShape,
+        k: u8,
+        symbol: Symbol,
+        mut left: u16,
+    ) -> ControlFlow<u8, u16>
+        requires { HeadsLie self.now.table.now shape k }
+        ensures { Looked self.now.table.now shape k symbol left result }
+    {
+        for head in (0..k).rev() {
+            let p = geometry::head_start(shape, head as usize) + HeadBytes::SYMBOL;
+            if self.table[p] == symbol.0 {
+                if left == 0 {
+                    return ControlFlow::Break(head);
+                }
+                left -= 1;
+            }
+        }
+        ControlFlow::Continue(left)
+    }
+
+    // Looks through the rules from `first` on, for the place behind `left` others.
+    fn from_rule(&self, first: usize, symbol: Symbol, mut left: u16) -> Option<HeadPlace>
+        ensures { result ≡ slice_get (places_behind (table_of self.now.table.now) symbol first) left }
+    {
+        for rule in first..self.shapes.len() {
+            let shape = self.shapes[rule];
+            match self.in_rule(shape, shape.heads, symbol, left) {
+                ControlFlow::Break(head) => {
+                    return Some(HeadPlace {
+                        rule: RuleNumber(rule as u8),
+                        head,
+                    });
+                }
+                ControlFlow::Continue(n) => left = n,
+            }
+        }
+        None
+    }
+
+    // Looks behind a place: through the heads below its own, and the rules behind its own.
+    fn from_place(&self, place: HeadPlace, symbol: Symbol, left: u16) -> Option<HeadPlace>
+        requires { Standing self.now.table.now place }
+        ensures { result ≡ slice_get (places_left (table_of self.now.table.now) symbol place.rule.0 place.head) left }
+    {
+        let rule = place.rule.0 as usize;
+        match self.in_rule(self.shapes[rule], place.head, symbol, left) {
+            ControlFlow::Break(head) => Some(HeadPlace { head, ..place }),
+            ControlFlow::Continue(n) => self.from_rule(rule + 1, symbol, n),
+        }
+    }
+}
+
+// The head places of a good table's symbols, and the mark of the run that asks for them.
 #[derive(Clone, Copy)]
-pub enum Look {
-    Found(u8),
-    Left(u16),
+pub struct Places<'a> {
+    pub rules: Rules<'a>,
+    pub mark: Option<Mark>,
+    ghost marked: { Marked rules.table.now mark },
 }
 
-// The mark of a run that begins.
-pub fn no_mark() -> Mark
-    ensures { result ≡ no_mark }
-{
-    Mark {
-        symbol: Symbol(0),
-        occurrence: Occurrence(0),
-        place: HeadPlace {
-            rule: RuleNumber(0),
-            head: 0,
-        },
+impl<'a> Places<'a> {
+    // As a run begins.
+    pub fn new(rules: Rules<'a>) -> Places<'a>
+        ensures rules { result.rules ≡ rules.entry }
+        ensures mark { result.mark ≡ None }
+    {
+        Places { rules, mark: None }
     }
-}
 
-// The mark after an answer about occurrence j: it moves to the place, where there is one.
-pub fn mark_of(before: Mark, symbol: Symbol, j: Occurrence, found: Spot) -> Mark
-    ensures { result ≡ mark_of before symbol j found }
-{
-    match found {
-        Spot::At(place) => Mark {
-            symbol: symbol,
-            occurrence: j,
-            place: place,
-        },
-        Spot::Nothing => before,
+    // The place of occurrence j of a symbol, where it has one. The way to it goes on from the mark, if it leads over that, and the mark moves there.
+    pub fn place_of(&mut self, symbol: Symbol, j: Occurrence) -> Option<HeadPlace>
+        ensures place { result ≡ slice_get (places (table_of self.old.rules.table.now) symbol) (j.0 - 1) }
+        ensures rules { self.new.rules ≡ self.old.rules }
+        ensures mark { self.new.mark ≡ mark_after self.old.mark symbol j result }
+    {
+        // Occurrences count from 1, places from 0.
+        let index = j.0.saturating_sub(1);
+        let place = self.find(symbol, index)?;
+        self.mark = Some(Mark {
+            symbol,
+            index,
+            place,
+        });
+        Some(place)
     }
-}
 
-// Whether the mark is on a place of the symbol.
-fn is_on(mark: Mark, symbol: Symbol) -> bool
-    ensures { result ≡ is_on mark symbol }
-{
-    let marked = mark.symbol;
-    let at = mark.occurrence;
-    if marked.0 == symbol.0 {
-        return 0 < at.0;
-    }
-    false
-}
-
-// Occurrences count from 1.
-fn index_of(j: Occurrence) -> u16
-    ensures { result ≡ j.0 - 1 }
-{
-    let n = j.0;
-    if n == 0 {
-        return 0;
-    }
-    n - 1
-}
-
-// Looks through the first k heads of a rule, from the last to the first, for the place behind `left` others.
-fn in_rule(table: &[u8], shape: RuleShape, k: u8, symbol: Symbol, left: u16) -> Look
-    requires { HeadsLie table.now shape k }
-    ensures { Looked table.now shape k symbol left result }
-{
-    let mut n = left;
-    let mut head = k;
-    while 0 < head {
-        head -= 1;
-        let p = geometry::head_start(shape, head as usize) + HeadBytes::SYMBOL;
-        if table[p] == symbol.0 {
-            if n == 0 {
-                return Look::Found(head);
-            }
-            n -= 1;
-        }
-    }
-    Look::Left(n)
-}
-
-// Looks through the rules from `first` on, for the place behind `left` others.
-fn from_rule(
-    table: &[u8],
-    rules: u8,
-    starts: &[u32; Table::RULES],
-    parts: &[u32; Table::RULES],
-    first: u8,
-    symbol: Symbol,
-    left: u16,
-) -> Spot
-    requires { Countable table.now rules starts.now parts.now }
-    ensures { found_place result ≡ get_elem? (places_behind (table_of table.now) symbol first) left }
-{
-    let mut n = left;
-    let mut rule = first;
-    while rule < rules {
-        let shape = shapes::shape_at(starts, parts, rule as usize);
-        let look = in_rule(table, shape, shape.heads, symbol, n);
-        match look {
-            Look::Found(head) => {
-                return Spot::At(HeadPlace {
-                    rule: RuleNumber(rule),
-                    head: head,
-                });
-            }
-            Look::Left(m) => {
-                n = m;
+    fn find(&self, symbol: Symbol, index: u16) -> Option<HeadPlace>
+        ensures { result ≡ slice_get (places (table_of self.now.rules.table.now) symbol) index }
+    {
+        if let Some(mark) = self.mark {
+            if mark.symbol.0 == symbol.0 {
+                if mark.index < index {
+                    return self
+                        .rules
+                        .from_place(mark.place, symbol, index - mark.index - 1);
+                }
+                if mark.index == index {
+                    return Some(mark.place);
+                }
             }
         }
-        rule += 1;
+        self.rules.from_rule(0, symbol, index)
     }
-    Spot::Nothing
-}
-
-// Looks behind a place: through the heads below its own, and the rules behind its own.
-fn from_place(
-    table: &[u8],
-    rules: u8,
-    starts: &[u32; Table::RULES],
-    parts: &[u32; Table::RULES],
-    place: HeadPlace,
-    symbol: Symbol,
-    left: u16,
-) -> Spot
-    requires { Countable table.now rules starts.now parts.now × Standing table.now place }
-    ensures { found_place result ≡ get_elem? (places_left (table_of table.now) symbol place.rule.0 place.head) left }
-{
-    let rule = place.rule;
-    let shape = shapes::shape_at(starts, parts, rule.0 as usize);
-    let look = in_rule(table, shape, place.head, symbol, left);
-    match look {
-        Look::Found(head) => Spot::At(HeadPlace {
-            rule: rule,
-            head: head,
-        }),
-        Look::Left(n) => from_rule(table, rules, starts, parts, rule.0 + 1, symbol, n),
-    }
-}
-
-// The place of occurrence j of a symbol, where it has one. The way to it goes on from the mark, if it leads over that.
-pub fn place_of(
-    table: &[u8],
-    rules: u8,
-    starts: &[u32; Table::RULES],
-    parts: &[u32; Table::RULES],
-    mark: Mark,
-    symbol: Symbol,
-    j: Occurrence,
-) -> Spot
-    requires { Countable table.now rules starts.now parts.now × Marked table.now mark }
-    ensures { found_place result ≡ get_elem? (places (table_of table.now) symbol) (j.0 - 1) }
-{
-    let at = mark.occurrence;
-    let marked = mark.place;
-    if is_on(mark, symbol) {
-        if at.0 < j.0 {
-            return from_place(table, rules, starts, parts, marked, symbol, j.0 - at.0 - 1);
-        }
-        if at.0 == j.0 {
-            return Spot::At(marked);
-        }
-    }
-    from_rule(table, rules, starts, parts, 0, symbol, index_of(j))
 }

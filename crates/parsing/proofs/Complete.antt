@@ -4,7 +4,7 @@ use Prim.Native.Nat.{ℕ, suc, ◌+◌, ◌≤◌, ◌<◌}
 use native.Mathlib.Omega.{arith}
 use mathlib.Core.Path.{◌≡◌, refl, ap, ◌∙◌}
 use mathlib.Core.Bool.{Bool, true, false}
-use mathlib.Core.Option.{none, some}
+use Rattle.std.specs.Prelude.{None, Some}
 use mathlib.Core.List.{List, [], ◌∷◌, ◌++◌, map, reverse, reverse_aux, append_assoc}
 use lib.Dec.{T, leb, ltb, eqb, lt→ltb, le→leb, eqb_refl}
 use lib.IntN.{pos}
@@ -31,7 +31,7 @@ use Rattle.parsing.proofs.Forward.{forward-twice}
 
 -- a token that never belongs to the part before it: no "/", no operation, no "("
 abbrev Delimits : Token → Type 0
-Delimits t = (slash_said t ≡ none) × (operation_said t ≡ none) × (mark_said opens t ≡ none)
+Delimits t = (slash_said t ≡ None) × (operation_said t ≡ None) × (mark_said opens t ≡ None)
 
 abbrev Delimited : List Token → Type 0
 Delimited [] = ⊥
@@ -91,7 +91,7 @@ module _ {A : Type 0} (tokens : A → List Token) (fw : A → A) (Fits : A → T
 
 -- a state from which a symbol begins a head
 abbrev Opening : Progress → Group → List HeadTree → Type 0
-Opening s g hs = (k : ℕ) (t : Token) (rest : List Token) → slash_said t ≡ none → run s (symbol k ∷ t ∷ rest) ≡ run (head_named g hs k) (t ∷ rest)
+Opening s g hs = (k : ℕ) (t : Token) (rest : List Token) → slash_said t ≡ None → run s (symbol k ∷ t ∷ rest) ≡ run (head_named g hs k) (t ∷ rest)
 
 opening-next : (g : Group) (hs : List HeadTree) → Opening (head_next g hs) g hs
 unfolding run step edges_of along by
@@ -112,7 +112,7 @@ module _ (g : Group) (hs : List HeadTree) where
         → run (head_slot g hs k t ts) (mark comma ∷ rest) ≡ run (head_wants g hs k (t ∷ ts)) rest
     unfolding run step edges_of along by
     slot-comma ts t rest h =
-        run-by (head_slot g hs k t ts) (mark comma) rest (some _)
+        run-by (head_slot g hs k t ts) (mark comma) rest (Some _)
         (only-takes (room ts) (the comma) _ _ (mark comma) tt (is-less (length ts) _ (omega arith)) refl)
 
     slot-part : (ts : List Term) (t : Term) (rest : List Token) → Unit {0} → Delimited rest
@@ -124,7 +124,7 @@ module _ (g : Group) (hs : List HeadTree) where
         → run (head_slot g hs k t ts) (mark closes ∷ rest) ≡ run (head_done g hs (head_with k (t ∷ ts))) rest
     unfolding run step edges_of along by
     slot-end ts t rest =
-        run-by (head_slot g hs k t ts) (mark closes) rest (some _) (only-skips (room ts) (the comma) _ _ (mark closes) refl)
+        run-by (head_slot g hs k t ts) (mark closes) rest (Some _) (only-skips (room ts) (the comma) _ _ (mark closes) refl)
 
     terms-on : (s : Progress) → Opening s g hs → (ts : List Term) → length ts ≤ 4 → (rest : List Token) → Delimited rest
         → run s (symbol k ∷ (bracket_tokens term_tokens ts ++ rest)) ≡ run (head_done g hs (head_with k (reverse ts))) rest
@@ -311,14 +311,14 @@ module _ (g : Guarded) (is : List ItemTree) where
         → run (formed (argument_of g is k es) f) (mark comma ∷ rest) ≡ run (wants (argument_of g is k (f ∷ es))) rest
     unfolding run step edges_of along by
     argument-comma es f rest h =
-        run-by (formed (argument_of g is k es) f) (mark comma) rest (some _)
+        run-by (formed (argument_of g is k es) f) (mark comma) rest (Some _)
         (only-takes (room es) (the comma) _ _ (mark comma) tt (is-less (length es) _ (omega arith)) refl)
 
     argument-end : (es : List Formula) (f : Formula) (rest : List Token)
         → run (formed (argument_of g is k es) f) (mark closes ∷ rest) ≡ run (item_done g is (fact k (f ∷ es))) rest
     unfolding run step edges_of along by
     argument-end es f rest =
-        run-by (formed (argument_of g is k es) f) (mark closes) rest (some _) (only-skips (room es) (the comma) _ _ (mark closes) refl)
+        run-by (formed (argument_of g is k es) f) (mark closes) rest (Some _) (only-skips (room es) (the comma) _ _ (mark closes) refl)
 
     arguments-on : (es : List Formula) → length es ≤ 4 → (rest : List Token) → Delimited rest
         → run (item_named g is k) (bracket_tokens formula_tokens es ++ rest) ≡ run (item_done g is (fact k (reverse es))) rest
@@ -391,7 +391,7 @@ rule-on s w o r rest u =
     ∙ rest-on w (turned_heads r.kept) (turned_heads r.removed) r.guards r.items rest u.items
 
 rules-on : (rs : List RuleTree) (w : TableTree) → every RuleShaped rs
-    → run (ruled w) (each_tokens rule_tokens rs) ≡ some (ruled (table_with w.arities (reverse_aux (map rule_forward rs) w.rules)))
+    → run (ruled w) (each_tokens rule_tokens rs) ≡ Some (ruled (table_with w.arities (reverse_aux (map rule_forward rs) w.rules)))
 unfolding each_tokens
 rules-on [] w u = unfold run in refl
 rules-on (r ∷ rs) w u = rule-on (ruled w) w (opening-ruled w) r (each_tokens rule_tokens rs) u.0 ∙ rules-on rs (rule_more w r) u.1
@@ -412,15 +412,15 @@ declarations-on (a ∷ later) ns rest u =
 -- where a run comes to a whole text
 pub record Reaches (s : Progress) (ts : List Token) (w : TableTree) : Type 0 where
   pub state : Progress
-  pub runs : run s ts ≡ some state
-  pub whole : whole state ≡ some w
+  pub runs : run s ts ≡ Some state
+  pub whole : whole state ≡ Some w
 
 complete-with : (ns : List ℕ) (rs : List RuleTree) → Shaped (table_with ns rs) → Reaches (declared []) (text_tokens (table_with ns rs)) (table_with ns rs)
 unfolding text_tokens each_tokens whole forward
 complete-with ns [] u = record {
   state = declared (reverse ns);
   runs = declarations-on ns [] [] u.arities ∙ (unfold run in refl);
-  whole = ap some (forward-twice (table_with ns []));
+  whole = ap Some (forward-twice (table_with ns []));
 }
 complete-with ns (r ∷ rs) u = record {
   state = ruled (table_with (reverse ns) (reverse (map rule_forward (r ∷ rs))));
@@ -428,7 +428,7 @@ complete-with ns (r ∷ rs) u = record {
       declarations-on ns [] (rule_tokens r ++ each_tokens rule_tokens rs) u.arities
       ∙ rule-on (declared (reverse ns)) (table_with (reverse ns) []) (opening-declared (reverse ns)) r (each_tokens rule_tokens rs) u.rules.0
       ∙ rules-on rs (rule_more (table_with (reverse ns) []) r) u.rules.1;
-  whole = ap some (forward-twice (table_with ns (r ∷ rs)));
+  whole = ap Some (forward-twice (table_with ns (r ∷ rs)));
 }
 
 -- the text of a tree with the counts of the grammar is read, and is whole, and the tree is that tree

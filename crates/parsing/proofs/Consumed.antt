@@ -4,7 +4,7 @@ use Prim.Native.Nat.{ℕ, ◌+◌, ◌≤◌, ◌<◌}
 use native.Mathlib.Omega.{arith}
 use mathlib.Core.Path.{◌≡◌, refl, sym, ap}
 use mathlib.Core.Bool.{Bool, true, false}
-use mathlib.Core.Option.{Option, none, some}
+use Rattle.std.specs.Prelude.{Option, None, Some}
 use mathlib.Core.List.{List, [], ◌∷◌, ◌++◌, reverse_aux}
 use lib.Dec.{ltb, ltb→lt}
 use lib.IntN.{pos}
@@ -282,5 +282,5 @@ run-came (t ∷ ts) s u = go (step s t) (step-leads s t u) (λ s' v. run-came ts
   where
     go : (o : Option Progress) → OptionIs (Leads (consumed s) t) o → ((s' : Progress) → Fit s' → OptionIs (Came (consumed s') ts) (run s' ts))
         → OptionIs (Came (consumed s) (t ∷ ts)) (and_then o (λ s'. run s' ts))
-    go none v later = tt
-    go (some s') v later = rw v.0 at (later s' v.1)
+    go None v later = tt
+    go (Some s') v later = rw v.0 at (later s' v.1)

@@ -4,7 +4,7 @@ use Prim.Native.Nat.{ℕ}
 use native.Mathlib.Omega.{arith}
 use mathlib.Core.Path.{◌≡◌, refl, sym, ap, ◌∙◌, subst}
 use mathlib.Core.Logic.{◌↔◌}
-use mathlib.Core.Option.{Option, none, some}
+use Rattle.std.specs.Prelude.{Option, None, Some}
 use mathlib.Core.List.{List, [], ◌∷◌, ◌++◌, append_assoc, append-nil}
 use Rattle.grammar.specs.Tree.{TableTree}
 use Rattle.text.specs.Token.{Token}
@@ -54,7 +54,7 @@ pub record Unfinished (l : Lexed) : Type 0 where
 
 -- ---- runs
 
-apart : {A B : Type 0} (o : Option A) (x : A) → o ≡ none → o ≡ some x → B
+apart : {A B : Type 0} (o : Option A) (x : A) → o ≡ None → o ≡ Some x → B
 apart o x e f = absurd (let z : ◌≡◌ {A = ℕ} 0 1 = cc in omega arith)
 
 reached : (ts : List Token) (w : TableTree) → Text ts w → Reaches (declared []) ts w
@@ -68,7 +68,7 @@ one-tree ts w w' x y =
     let same : r.state ≡ r'.state = cc (r.runs, r'.runs) in
     cc (same, r.whole, r'.whole)
 
-begins-run : (ts : List Token) (s : Progress) → run (declared []) ts ≡ some s → Begins ts
+begins-run : (ts : List Token) (s : Progress) → run (declared []) ts ≡ Some s → Begins ts
 begins-run ts s e =
     let f : Finish s = finish s in
     record {
@@ -78,44 +78,44 @@ begins-run ts s e =
       text = sound (ts ++ f.rest) f.tree
           (record {
             state = f.reaches.state;
-            runs = run-on (declared []) ts f.rest (some s) e ∙ f.reaches.runs;
+            runs = run-on (declared []) ts f.rest (Some s) e ∙ f.reaches.runs;
             whole = f.reaches.whole;
           });
     }
 
-never-run : (ts : List Token) → run (declared []) ts ≡ none → Never ts
+never-run : (ts : List Token) → run (declared []) ts ≡ None → Never ts
 never-run ts e rest w x =
     let r : Reaches (declared []) (ts ++ rest) w = reached (ts ++ rest) w x in
-    let stuck : run (declared []) (ts ++ rest) ≡ none = run-on (declared []) ts rest none e in
+    let stuck : run (declared []) (ts ++ rest) ≡ None = run-on (declared []) ts rest None e in
     apart (run (declared []) (ts ++ rest)) r.state stuck r.runs
 
 -- some tokens begin a text exactly if the machine reads them
 record Read (ts : List Token) : Type 0 where
   state : Progress
-  runs : run (declared []) ts ≡ some state
+  runs : run (declared []) ts ≡ Some state
 
 run-begins : (ts : List Token) → Begins ts → Read ts
 run-begins ts b = go (run (declared []) ts) refl
   where
     go : (o : Option Progress) → run (declared []) ts ≡ o → Read ts
-    go none e = absurd (never-run ts e b.rest b.tree b.text)
-    go (some s) e = record { state = s; runs = e }
+    go None e = absurd (never-run ts e b.rest b.tree b.text)
+    go (Some s) e = record { state = s; runs = e }
 
-run-never : (ts : List Token) → Never ts → run (declared []) ts ≡ none
+run-never : (ts : List Token) → Never ts → run (declared []) ts ≡ None
 run-never ts never = go (run (declared []) ts) refl
   where
-    go : (o : Option Progress) → run (declared []) ts ≡ o → run (declared []) ts ≡ none
-    go none e = e
-    go (some s) e = let b : Begins ts = begins-run ts s e in absurd (never b.rest b.tree b.text)
+    go : (o : Option Progress) → run (declared []) ts ≡ o → run (declared []) ts ≡ None
+    go None e = e
+    go (Some s) e = let b : Begins ts = begins-run ts s e in absurd (never b.rest b.tree b.text)
 
 -- a step more
-run-last : (s s' : Progress) (ts : List Token) (t : Token) → run s ts ≡ some s' → run s (ts ++ (t ∷ [])) ≡ step s' t
+run-last : (s s' : Progress) (ts : List Token) (t : Token) → run s ts ≡ Some s' → run s (ts ++ (t ∷ [])) ≡ step s' t
 unfolding run
-run-last s s' ts t e = run-on s ts (t ∷ []) (some s') e ∙ last (step s' t)
+run-last s s' ts t e = run-on s ts (t ∷ []) (Some s') e ∙ last (step s' t)
   where
     last : (o : Option Progress) → and_then o (λ s''. run s'' []) ≡ o
-    last none = refl
-    last (some s'') = refl
+    last None = refl
+    last (Some s'') = refl
 
 -- ---- what `parsed` answers, by runs
 
@@ -124,13 +124,13 @@ record Refused (s : Progress) (l : Lexed) (p : ℕ) : Type 0 where
   token : Token
   stands : StandsAt l before p token
   state : Progress
-  runs : run s before ≡ some state
-  refuses : step state token ≡ none
+  runs : run s before ≡ Some state
+  refuses : step state token ≡ None
 
 record Stopped (s : Progress) (ts : List Token) : Type 0 where
   state : Progress
-  runs : run s ts ≡ some state
-  whole : whole state ≡ none
+  runs : run s ts ≡ Some state
+  whole : whole state ≡ None
 
 abbrev Answered : Progress → Lexed → Parsed → Type 0
 Answered s l (tree w) = AllTokens l × Reaches s (tokens_in l) w
@@ -140,8 +140,8 @@ Answered s l unfinished = AllTokens l × Stopped s (tokens_in l)
 
 answered-end : (s : Progress) (o : Option TableTree) → whole s ≡ o → Answered s end (ended o)
 unfolding ended run tokens_in
-answered-end s none e = (tt, record { state = s; runs = refl; whole = e })
-answered-end s (some w) e = (tt, record { state = s; runs = refl; whole = e })
+answered-end s None e = (tt, record { state = s; runs = refl; whole = e })
+answered-end s (Some w) e = (tt, record { state = s; runs = refl; whole = e })
 
 -- behind a token that is refused there are only tokens, or there is none somewhere
 answered-wrong : (s : Progress) (p : ℕ) (l more : Lexed) → (AllTokens more → AllTokens l) → ((q : ℕ) → EndsAt more q → EndsAt l q) → Refused s l p
@@ -152,13 +152,13 @@ answered-wrong s p l (no_token q) all ends r = ends q refl
 answered-wrong s p l (next q t more) all ends r = answered-wrong s p l more all ends r
 
 -- one token more in front
-answered-more : (s s' : Progress) (p : ℕ) (t : Token) (more : Lexed) (o : Parsed) → step s t ≡ some s' → Answered s' more o → Answered s (next p t more) o
+answered-more : (s s' : Progress) (p : ℕ) (t : Token) (more : Lexed) (o : Parsed) → step s t ≡ Some s' → Answered s' more o → Answered s (next p t more) o
 unfolding run tokens_in
 answered-more s s' p t more (tree w) e a = (
   a.0,
   record {
     state = a.1.state;
-    runs = run-by s t (tokens_in more) (some s') e ∙ a.1.runs;
+    runs = run-by s t (tokens_in more) (Some s') e ∙ a.1.runs;
     whole = a.1.whole;
   },
 )
@@ -170,7 +170,7 @@ answered-more s s' p t more (wrong q) e a = (
     token = a.1.token;
     stands = (refl, a.1.stands);
     state = a.1.state;
-    runs = run-by s t a.1.before (some s') e ∙ a.1.runs;
+    runs = run-by s t a.1.before (Some s') e ∙ a.1.runs;
     refuses = a.1.refuses;
   },
 )
@@ -178,7 +178,7 @@ answered-more s s' p t more unfinished e a = (
   a.0,
   record {
     state = a.1.state;
-    runs = run-by s t (tokens_in more) (some s') e ∙ a.1.runs;
+    runs = run-by s t (tokens_in more) (Some s') e ∙ a.1.runs;
     whole = a.1.whole;
   },
 )
@@ -191,10 +191,10 @@ answered (next p t more) s = go (step s t) refl (λ s'. answered more s')
   where
     go : (o : Option Progress) → step s t ≡ o → ((s' : Progress) → Answered s' more (parsed_from s' more))
         → Answered s (next p t more) (go_on p more (λ s'. parsed_from s' more) o)
-    go none e later = unfold go_on in
+    go None e later = unfold go_on in
         answered-wrong s p (next p t more) more (λ x. x) (λ q x. x)
         (record { before = []; token = t; stands = (refl, refl); state = s; runs = unfold run in refl; refuses = e })
-    go (some s') e later = unfold go_on in answered-more s s' p t more (parsed_from s' more) e (later s')
+    go (Some s') e later = unfold go_on in answered-more s s' p t more (parsed_from s' more) e (later s')
 
 -- ---- and back
 
@@ -237,21 +237,21 @@ wrong-all p end all = refl
 wrong-all p (no_token q) all = absurd all
 wrong-all p (next q t more) all = wrong-all p more all
 
-refused-wrong : (l : Lexed) (before : List Token) (s s' : Progress) (p : ℕ) (t : Token) → StandsAt l before p t → AllTokens l → run s before ≡ some s'
-    → step s' t ≡ none → parsed_from s l ≡ wrong p
+refused-wrong : (l : Lexed) (before : List Token) (s s' : Progress) (p : ℕ) (t : Token) → StandsAt l before p t → AllTokens l → run s before ≡ Some s'
+    → step s' t ≡ None → parsed_from s l ≡ wrong p
 unfolding run parsed_from go_on
 refused-wrong end before s s' p t e all r f = absurd e
 refused-wrong (no_token q) before s s' p t e all r f = absurd e
 refused-wrong (next q u more) [] s s' p t e all r f =
-    let here : step s u ≡ none = cc in
+    let here : step s u ≡ None = cc in
     rw here (wrong-all q more all ∙ ap wrong e.0)
 refused-wrong (next q u more) (b ∷ before) s s' p t e all r f =
     go (step s u) (ap (λ (v : Token). step s v) e.0) (λ s'' r'. refused-wrong more before s'' s' p t e.1 all r' f)
   where
-    go : (o : Option Progress) → o ≡ step s b → ((s'' : Progress) → run s'' before ≡ some s' → parsed_from s'' more ≡ wrong p)
+    go : (o : Option Progress) → o ≡ step s b → ((s'' : Progress) → run s'' before ≡ Some s' → parsed_from s'' more ≡ wrong p)
         → go_on q more (λ s''. parsed_from s'' more) o ≡ wrong p
-    go none d later = apart (and_then (step s b) (λ s''. run s'' before)) s' (rw (← d) refl) r
-    go (some s'') d later = later s'' (rw (← d) at r)
+    go None d later = apart (and_then (step s b) (λ s''. run s'' before)) s' (rw (← d) refl) r
+    go (Some s'') d later = later s'' (rw (← d) at r)
 
 strange-from : (p q : ℕ) (l : Lexed) → EndsAt l q → wrong_from p l ≡ strange q
 unfolding wrong_from
@@ -266,8 +266,8 @@ ends-strange (no_token q) s p e = ap strange e
 ends-strange (next q t more) s p e = go (step s t) (λ s'. ends-strange more s' p e)
   where
     go : (o : Option Progress) → ((s' : Progress) → parsed_from s' more ≡ strange p) → go_on q more (λ s'. parsed_from s' more) o ≡ strange p
-    go none later = strange-from q p more e
-    go (some s') later = later s'
+    go None later = strange-from q p more e
+    go (Some s') later = later s'
 
 -- ---- the four answers
 
@@ -313,7 +313,7 @@ module _ (l : Lexed) where
       back : WrongAt l p → parsed l ≡ wrong p
       back x =
           let r : Read x.before = run-begins x.before x.begins in
-          let f : step r.state x.token ≡ none
+          let f : step r.state x.token ≡ None
           = sym (run-last (declared []) r.state x.before x.token r.runs) ∙ run-never (x.before ++ (x.token ∷ [])) x.never in
           refused-wrong l x.before (declared []) r.state p x.token x.stands x.tokens r.runs f
 

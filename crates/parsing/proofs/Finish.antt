@@ -2,7 +2,7 @@
 use Prim.Native.Nat.{ℕ}
 use native.Mathlib.Omega.{arith}
 use mathlib.Core.Path.{◌≡◌, refl, ◌∙◌}
-use mathlib.Core.Option.{some}
+use Rattle.std.specs.Prelude.{Some}
 use mathlib.Core.List.{List, [], ◌∷◌}
 use lib.IntN.{pos}
 use Rattle.model.proofs.Every.{every}
@@ -27,19 +27,19 @@ pub record Finish (s : Progress) : Type 0 where
   pub reaches : Reaches s rest tree
 
 -- a token more, before them
-go-on : (s s' : Progress) (t : Token) → TokenGood t → step s t ≡ some s' → Finish s' → Finish s
+go-on : (s s' : Progress) (t : Token) → TokenGood t → step s t ≡ Some s' → Finish s' → Finish s
 go-on s s' t g e f = record {
   rest = t ∷ f.rest;
   good = (g, f.good);
   tree = f.tree;
   reaches = record {
     state = f.reaches.state;
-    runs = run-by s t f.rest (some s') e ∙ f.reaches.runs;
+    runs = run-by s t f.rest (Some s') e ∙ f.reaches.runs;
     whole = f.reaches.whole;
   };
 }
 
-here : (s : Progress) (w : TableTree) → whole s ≡ some w → Finish s
+here : (s : Progress) (w : TableTree) → whole s ≡ Some w → Finish s
 unfolding run
 here s w e = record { rest = []; good = tt; tree = w; reaches = record { state = s; runs = refl; whole = e } }
 

@@ -4,7 +4,7 @@ use Prim.Native.Nat.{ℕ, ◌≤◌}
 use native.Mathlib.Omega.{arith}
 use mathlib.Core.Path.{◌≡◌, refl, sym, ap, ◌∙◌}
 use mathlib.Core.Bool.{Bool, true, false}
-use mathlib.Core.Option.{Option, none, some}
+use Rattle.std.specs.Prelude.{Option, None, Some}
 use mathlib.Core.List.{List, [], ◌∷◌, ◌++◌}
 use lib.Dec.{leb, eqb, T, leb→le, eqb→eq}
 use lib.IntN.{pos, negsuc}
@@ -71,7 +71,7 @@ told-mark m (symbol k) = tt
 told-mark m (slot a) = tt
 told-mark m (compares c) = tt
 told-mark m (operates o) = tt
-told-mark m (mark m') = either (OptionIs (Told (the m) (mark m'))) (eqb (mark_number m) (mark_number m')) (some tt) none
+told-mark m (mark m') = either (OptionIs (Told (the m) (mark m'))) (eqb (mark_number m) (mark_number m')) (Some tt) None
     (λ e. (ap mark (mark-same m m' (test-equal (mark_number m) (mark_number m') e)), tt)) (λ e. tt)
 
 told-slash : (t : Token) → OptionIs (Told slash t) (slash_said t)
@@ -88,7 +88,7 @@ told-slash (mark m) = tt
 told-arity : (t : Token) → OptionIs (Told an_arity t) (arity_said t)
 told-arity (symbol k) = tt
 told-arity (slot (constant (pos n))) =
-    either (OptionIs (Told an_arity (slot (constant (pos n))))) (leb n 4) (some n) none (λ e. (refl, test-le n 4 e)) (λ e. tt)
+    either (OptionIs (Told an_arity (slot (constant (pos n))))) (leb n 4) (Some n) None (λ e. (refl, test-le n 4 e)) (λ e. tt)
 told-arity (slot (constant (negsuc n))) = tt
 told-arity (slot (variable v)) = tt
 told-arity (compares c) = tt
@@ -134,23 +134,23 @@ module _ (P : Token → Progress → Type 0) where
   along-keeps (edge c to ∷ es) t u = go (said c t) (told c t) (along-keeps es t u.1)
     where
       go : (o : Option (Said c)) → OptionIs (Told c t) o → OptionIs (P t) (along es t) → OptionIs (P t) (by c to (along es t) o)
-      go none v later = later
-      go (some x) v later = rw v.0 (u.0 x v.1)
+      go None v later = later
+      go (Some x) v later = rw v.0 (u.0 x v.1)
 
 -- an edge of another class is passed over
-pub skips : (c : Class) (to : Said c → Progress) (es : List Edge) (t : Token) → said c t ≡ none → along (edge c to ∷ es) t ≡ along es t
+pub skips : (c : Class) (to : Said c → Progress) (es : List Edge) (t : Token) → said c t ≡ None → along (edge c to ∷ es) t ≡ along es t
 unfolding along by
 skips c to es t e = rw e
 
 -- also where it stands only under a test
-pub only-skips : (b : Bool) (c : Class) (to : Said c → Progress) (es : List Edge) (t : Token) → said c t ≡ none
+pub only-skips : (b : Bool) (c : Class) (to : Said c → Progress) (es : List Edge) (t : Token) → said c t ≡ None
     → along (only b (edge c to ∷ []) ++ es) t ≡ along es t
 only-skips true c to es t e = skips c to es t e
 only-skips false c to es t e = refl
 
 -- and is taken where the test holds
-pub only-takes : (b : Bool) (c : Class) (to : Said c → Progress) (es : List Edge) (t : Token) (x : Said c) → b ≡ true → said c t ≡ some x
-    → along (only b (edge c to ∷ []) ++ es) t ≡ some (to x)
+pub only-takes : (b : Bool) (c : Class) (to : Said c → Progress) (es : List Edge) (t : Token) (x : Said c) → b ≡ true → said c t ≡ Some x
+    → along (only b (edge c to ∷ []) ++ es) t ≡ Some (to x)
 unfolding along by
 only-takes true c to es t x e f = rw f
 only-takes false c to es t x e f = never (sym e)
@@ -158,12 +158,12 @@ only-takes false c to es t x e f = never (sym e)
 -- ---- runs
 
 abbrev pub and_then : {A B : Type 0} → Option A → (A → Option B) → Option B
-and_then none f = none
-and_then (some x) f = f x
+and_then None f = None
+and_then (Some x) f = f x
 
 -- where some tokens lead from a state, one step after the other
 unfoldable pub run : Progress → List Token → Option Progress
-run s [] = some s
+run s [] = Some s
 run s (t ∷ ts) = and_then (step s t) (λ s'. run s' ts)
 
 -- a step, and the run behind it
@@ -178,8 +178,8 @@ run-append s (t ∷ ts) us = go (step s t) (λ s'. run-append s' ts us)
   where
     go : (o : Option Progress) → ((s' : Progress) → run s' (ts ++ us) ≡ and_then (run s' ts) (λ s''. run s'' us))
         → and_then o (λ s'. run s' (ts ++ us)) ≡ and_then (and_then o (λ s'. run s' ts)) (λ s''. run s'' us)
-    go none later = refl
-    go (some s') later = later s'
+    go None later = refl
+    go (Some s') later = later s'
 
 -- a run, and the run behind it
 pub run-on : (s : Progress) (ts us : List Token) (o : Option Progress) → run s ts ≡ o → run s (ts ++ us) ≡ and_then o (λ s'. run s' us)

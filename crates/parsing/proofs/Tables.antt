@@ -9,17 +9,19 @@ use lib.Dec.{eqb}
 use lib.ListN.{length, get_or, length-append}
 use borrow.Author.Tests.{lt-leb, le-ltb, ne_eqb}
 use Rattle.model.specs.declared.Kind.{Kind}
-use Rattle.model.specs.declared.Kind.TheVariants.{NextSymbol, NextRule, KeptHead, RemovedHead, Comparison, BodyFact, BodyFail, EndOfTable, Unknown}
+use Rattle.model.specs.declared.Kind.TheVariants.{NextSymbol, NextRule, KeptHead, RemovedHead, Comparison, BodyFact, BodyFail, EndOfTable}
 use Rattle.model.specs.declared.RuleShape.{RuleShape}
 use Rattle.model.specs.declared.Scan.{Scan}
-use Rattle.model.specs.declared.RecordStep.{RecordStep}
-use Rattle.model.specs.declared.RecordStep.TheVariants.{Next, Stop, Done}
-use Rattle.model.specs.declared.Verdict.{Verdict}
-use Rattle.model.specs.declared.Verdict.TheVariants.{Good, Refused}
+use Rattle.std.specs.Prelude.{Some, Ok, Err}
+use Rattle.model.specs.declared.Behind.TheVariants.{Next, Done}
+use Rattle.model.specs.declared.Reason.TheVariants.{TooMany, BadField, StrangeVariable}
+use Rattle.model.specs.declared.Refusal.{Refusal}
+use Rattle.model.specs.Refusals.{Verdict, number_of, refused}
 use Rattle.model.specs.Records.{kind_of, size_of, earliest_of, latest_of, out_of_order, headless, too_many}
 use Rattle.model.specs.Fields.{bad_field}
 use Rattle.model.specs.Variables.{strange}
-use Rattle.model.specs.Reading.{behind, fields_of, ordered_of, tested_of, record_of, noted, ended, go_on, read_from, read_of, first_scan, no_shapes}
+use Rattle.model.specs.Reading.{RecordStep, behind, fields_of, ordered_of, tested_of, known_of, record_of}
+use Rattle.model.specs.Reading.{noted, ended, go_on, read_from, read_of, first_scan, no_shapes}
 use Rattle.model.specs.Calls.{verdict_result, check_of}
 use Rattle.model.proofs.Every.{every}
 use Rattle.model.proofs.Lists.{either}
@@ -40,14 +42,14 @@ Among ns n = Memᴰ n ns
 
 -- a verdict that a text's table can get
 abbrev Fair : Verdict → Type 0
-Fair Good = Unit {0}
-Fair (Refused n p) = Among (19 ∷ 20 ∷ 22 ∷ []) n
+Fair (Ok u) = Unit {0}
+Fair (Err r) = Among (19 ∷ 20 ∷ 22 ∷ []) (number_of r.reason)
 
 -- ---- one record
 
 -- a record whose kind, length and place in the order are right
 record Placed (t : List ℕ) (at stage : ℕ) (k : Kind) : Type 0 where
-  kind : kind_of (get_or t at 0) ≡ k
+  kind : kind_of (get_or t at 0) ≡ Some k
   some : 1 ≤ size_of k
   lies : at + size_of k ≤ length t
   early : earliest_of k ≤ stage
@@ -56,21 +58,21 @@ record Placed (t : List ℕ) (at stage : ℕ) (k : Kind) : Type 0 where
 
 -- is refused with 19, 20 or 22, or read
 record-fair : (P : RecordStep → Type 0) (t : List ℕ) (s : Scan) (k : Kind) → Placed t s.at s.stage k
-    → ((n p : ℕ) → Among (19 ∷ 20 ∷ 22 ∷ []) n → P (Stop n p)) → P (behind s k) → P (record_of t s)
-unfolding record_of tested_of ordered_of fields_of out_of_order
+    → ((r : Refusal) → Among (19 ∷ 20 ∷ 22 ∷ []) (number_of r.reason) → P (Err r)) → P (Ok (behind s k)) → P (record_of t s)
+unfolding record_of known_of tested_of ordered_of fields_of out_of_order
 record-fair P t s k r stops goes =
     rw (
       lt-leb (length t) s.at (omega (arith, r.some, r.lies)),
       r.kind,
-      ne_eqb (size_of k) 0 (λ (z : size_of k ≡ 0). omega (arith, r.some)),
       le-ltb (length t) (s.at + size_of k) r.lies,
       le-ltb s.stage (earliest_of k) r.early,
       le-ltb (latest_of k) s.stage r.late,
       r.headed,
     )
-    (either P (too_many k s) (Stop 19 s.at) _ (λ e. stops 19 s.at (Memᴰ.head refl))
-    (λ e. either P (bad_field t s k) (Stop 20 s.at) _ (λ f. stops 20 s.at (Memᴰ.tail (Memᴰ.head refl)))
-    (λ f. either P (strange t s k) (Stop 22 s.at) (behind s k) (λ g. stops 22 s.at (Memᴰ.tail (Memᴰ.tail (Memᴰ.head refl)))) (λ g. goes))))
+    (either P (too_many k s) (refused TooMany s.at) _ (λ e. stops (record { reason = TooMany; place = s.at }) (Memᴰ.head refl))
+    (λ e. either P (bad_field t s k) (refused BadField s.at) _ (λ f. stops (record { reason = BadField; place = s.at }) (Memᴰ.tail (Memᴰ.head refl)))
+    (λ f. either P (strange t s k) (refused StrangeVariable s.at) (Ok (behind s k))
+    (λ g. stops (record { reason = StrangeVariable; place = s.at }) (Memᴰ.tail (Memᴰ.tail (Memᴰ.head refl)))) (λ g. goes))))
 
 -- ---- from a place on
 
@@ -81,26 +83,26 @@ FairFrom t at stage = (s : Scan) → s.at ≡ at → s.stage ≡ stage → (n : 
 
 -- what may come of a record at a place
 abbrev FairStep : List ℕ → ℕ → RecordStep → Type 0
-FairStep t at (Next s) = (at < s.at) × FairFrom t s.at s.stage
-FairStep t at (Stop n p) = Among (19 ∷ 20 ∷ 22 ∷ []) n
-FairStep t at (Done p) = p ≡ length t
+FairStep t at (Ok (Next s)) = (at < s.at) × FairFrom t s.at s.stage
+FairStep t at (Err r) = Among (19 ∷ 20 ∷ 22 ∷ []) (number_of r.reason)
+FairStep t at (Ok (Done p)) = p ≡ length t
 
-fair-record : (t : List ℕ) (at stage : ℕ) (k : Kind) → Placed t at stage k → ((s : Scan) → s.at ≡ at → FairStep t at (behind s k)) → FairFrom t at stage
+fair-record : (t : List ℕ) (at stage : ℕ) (k : Kind) → Placed t at stage k → ((s : Scan) → s.at ≡ at → FairStep t at (Ok (behind s k))) → FairFrom t at stage
 unfolding read_from
 fair-record t at stage k r follows s e f zero shapes h = absurd (omega (arith, r.some, r.lies))
 fair-record t at stage k r follows s e f (suc n) shapes h =
-    go (record_of t s) (record-fair (FairStep t at) t s k (rw (e, f) r) (λ m p a. a) (follows s e))
+    go (record_of t s) (record-fair (FairStep t at) t s k (rw (e, f) r) (λ r a. a) (follows s e))
   where
     go : (x : RecordStep) → FairStep t at x → Fair (go_on t s shapes (read_from n t) x).verdict
-    go (Next s') u = unfold go_on in u.1 s' refl refl n (noted shapes s') (omega (arith, u.0))
-    go (Stop m p) u = unfold go_on in u
-    go (Done p) u = unfold go_on ended in rw (le-ltb p (length t) (omega arith)) tt
+    go (Ok (Next s')) u = unfold go_on in u.1 s' refl refl n (noted shapes s') (omega (arith, u.0))
+    go (Err r) u = unfold go_on in u
+    go (Ok (Done p)) u = unfold go_on ended in rw (le-ltb p (length t) (omega arith)) tt
 
 -- ---- the parts of a rule
 
 -- a part of a rule: its record leads on to the stage `last`
 record Part (bs : List ℕ) (last : ℕ) (k : Kind) : Type 0 where
-  kind : (t : List ℕ) (p : ℕ) → At t p bs → kind_of (get_or t p 0) ≡ k
+  kind : (t : List ℕ) (p : ℕ) → At t p bs → kind_of (get_or t p 0) ≡ Some k
   long : length bs ≡ size_of k
   some : 1 ≤ size_of k
   early : earliest_of k ≤ 1
@@ -117,7 +119,6 @@ headed-from Comparison stage h = ne_eqb stage 1 (λ (e : stage ≡ 1). omega ari
 headed-from BodyFact stage h = ne_eqb stage 1 (λ (e : stage ≡ 1). omega arith)
 headed-from BodyFail stage h = ne_eqb stage 1 (λ (e : stage ≡ 1). omega arith)
 headed-from EndOfTable stage h = ne_eqb stage 1 (λ (e : stage ≡ 1). omega arith)
-headed-from Unknown stage h = refl
 
 module _ (t : List ℕ) {A : Type 0} (bytes : A → List ℕ) (kind : A → Kind) (last : ℕ) (part : (x : A) → Part (bytes x) last (kind x)) (two : 2 ≤ last) where
   -- parts of a sort, one behind the other
@@ -149,11 +150,11 @@ module _ (t : List ℕ) {A : Type 0} (bytes : A → List ℕ) (kind : A → Kind
       rw g.1 (omega (arith, g.2, (part x).some), rw (there, g.3) later))
 
 -- the kind of a record that begins with its byte
-kind-at : (b : ℕ) (bs : List ℕ) (k : Kind) → kind_of b ≡ k → (t : List ℕ) (p : ℕ) → At t p (b ∷ bs) → kind_of (get_or t p 0) ≡ k
+kind-at : (b : ℕ) (bs : List ℕ) (k : Kind) → kind_of b ≡ Some k → (t : List ℕ) (p : ℕ) → At t p (b ∷ bs) → kind_of (get_or t p 0) ≡ Some k
 kind-at b bs k e t p a = ap kind_of (same-first t p b bs a.same) ∙ e
 
 -- a part that begins with the byte b, of kind k
-part-with : (b : ℕ) (bs : List ℕ) (last : ℕ) (k : Kind) → kind_of b ≡ k → length (b ∷ bs) ≡ size_of k
+part-with : (b : ℕ) (bs : List ℕ) (last : ℕ) (k : Kind) → kind_of b ≡ Some k → length (b ∷ bs) ≡ size_of k
     → (1 ≤ size_of k) × (earliest_of k ≤ 1) × (last ≤ latest_of k)
     → ((s : Scan) → (s' : Scan) × (behind s k ≡ Next s') × (s'.at ≡ s.at + size_of k) × (s'.stage ≡ last)) → Part (b ∷ bs) last k
 part-with b bs last k e long places goes = record {
@@ -261,8 +262,8 @@ module _ (t : List ℕ) where
 -- the number of a check is 0, or one that the verdict has
 check-among : (v : Verdict) → Fair v → Among (0 ∷ 19 ∷ 20 ∷ 22 ∷ []) (verdict_result v).number
 unfolding verdict_result
-check-among Good u = Memᴰ.head refl
-check-among (Refused n p) u = Memᴰ.tail u
+check-among (Ok v) u = Memᴰ.head refl
+check-among (Err r) u = Memᴰ.tail u
 
 -- The table of a tree that has the counts of the grammar is good, or is refused with 19, 20 or 22.
 pub only-19-20-22 : (w : TableTree) → Shaped w → Among (0 ∷ 19 ∷ 20 ∷ 22 ∷ []) (check_of (encode w)).number

@@ -1,6 +1,6 @@
 -- What is asked of the next token, and what a token that is of that class says.
 use Rattle.std.specs.Prelude.{ℕ, cond, leb, eqb, pos, negsuc}
-use Rattle.std.proofs.Math.Option.{Option, none, some}
+use Rattle.std.specs.Prelude.{Option, None, Some}
 use Rattle.grammar.specs.Tree.{Term, constant, variable, Operation, quotient, operation_number, Comparator}
 use Rattle.text.specs.Token.{Token, symbol, slot, compares, operates, mark, Mark}
 use Rattle.text.specs.Token.{mark_number}
@@ -32,58 +32,58 @@ saying (the m) x = mark m
 
 -- "arity is a constant of value 0..4"
 abbrev pub arity_of : Term → Option ℕ
-arity_of (constant (pos n)) = cond (leb n 4) (some n) none
-arity_of (constant (negsuc n)) = none
-arity_of (variable v) = none
+arity_of (constant (pos n)) = cond (leb n 4) (Some n) None
+arity_of (constant (negsuc n)) = None
+arity_of (variable v) = None
 
 abbrev pub symbol_said : Token → Option ℕ
-symbol_said (symbol k) = some k
-symbol_said (slot a) = none
-symbol_said (compares c) = none
-symbol_said (operates o) = none
-symbol_said (mark m) = none
+symbol_said (symbol k) = Some k
+symbol_said (slot a) = None
+symbol_said (compares c) = None
+symbol_said (operates o) = None
+symbol_said (mark m) = None
 
 abbrev pub slot_said : Token → Option Term
-slot_said (symbol k) = none
-slot_said (slot a) = some a
-slot_said (compares c) = none
-slot_said (operates o) = none
-slot_said (mark m) = none
+slot_said (symbol k) = None
+slot_said (slot a) = Some a
+slot_said (compares c) = None
+slot_said (operates o) = None
+slot_said (mark m) = None
 
 abbrev pub comparator_said : Token → Option Comparator
-comparator_said (symbol k) = none
-comparator_said (slot a) = none
-comparator_said (compares c) = some c
-comparator_said (operates o) = none
-comparator_said (mark m) = none
+comparator_said (symbol k) = None
+comparator_said (slot a) = None
+comparator_said (compares c) = Some c
+comparator_said (operates o) = None
+comparator_said (mark m) = None
 
 abbrev pub operation_said : Token → Option Operation
-operation_said (symbol k) = none
-operation_said (slot a) = none
-operation_said (compares c) = none
-operation_said (operates o) = some o
-operation_said (mark m) = none
+operation_said (symbol k) = None
+operation_said (slot a) = None
+operation_said (compares c) = None
+operation_said (operates o) = Some o
+operation_said (mark m) = None
 
 abbrev pub slash_said : Token → Option (Unit {0})
-slash_said (symbol k) = none
-slash_said (slot a) = none
-slash_said (compares c) = none
-slash_said (operates o) = cond (eqb (operation_number o) 4) (some tt) none
-slash_said (mark m) = none
+slash_said (symbol k) = None
+slash_said (slot a) = None
+slash_said (compares c) = None
+slash_said (operates o) = cond (eqb (operation_number o) 4) (Some tt) None
+slash_said (mark m) = None
 
 abbrev pub arity_said : Token → Option ℕ
-arity_said (symbol k) = none
+arity_said (symbol k) = None
 arity_said (slot a) = arity_of a
-arity_said (compares c) = none
-arity_said (operates o) = none
-arity_said (mark m) = none
+arity_said (compares c) = None
+arity_said (operates o) = None
+arity_said (mark m) = None
 
 abbrev pub mark_said : Mark → Token → Option (Unit {0})
-mark_said m (symbol k) = none
-mark_said m (slot a) = none
-mark_said m (compares c) = none
-mark_said m (operates o) = none
-mark_said m (mark m') = cond (eqb (mark_number m) (mark_number m')) (some tt) none
+mark_said m (symbol k) = None
+mark_said m (slot a) = None
+mark_said m (compares c) = None
+mark_said m (operates o) = None
+mark_said m (mark m') = cond (eqb (mark_number m) (mark_number m')) (Some tt) None
 
 -- what a token says as one of a class, where it is one
 abbrev pub said : (c : Class) → Token → Option (Said c)

@@ -1,6 +1,6 @@
 -- Which token may come next, and how far the text is read with it.
 use Rattle.std.specs.Prelude.{ℕ, Bool, cond, List, [], ◌∷◌, ◌++◌, ltb, eqb, length}
-use Rattle.std.proofs.Math.Option.{Option, none, some}
+use Rattle.std.specs.Prelude.{Option, None, Some}
 use Rattle.grammar.specs.Tree.{Formula, alone, applied, HeadTree, ItemTree, fact, fail}
 use Rattle.text.specs.Token.{Token, Mark, backslash, simplifies, propagates, bar, opens, closes, comma, stop, true_word, fail_word}
 use Rattle.parsing.specs.Classes.{Class, a_symbol, a_slot, a_comparator, an_operation, slash, an_arity, the, Said, said}
@@ -92,11 +92,11 @@ edges_of (item_next g is) = item_edges g is
 -- ---- a step
 
 unfoldable pub by : (c : Class) → (Said c → Progress) → Option Progress → Option (Said c) → Option Progress
-by c to later none = later
-by c to later (some x) = some (to x)
+by c to later None = later
+by c to later (Some x) = Some (to x)
 
 unfoldable pub along : List Edge → Token → Option Progress
-along [] t = none
+along [] t = None
 along (edge c to ∷ es) t = by c to (along es t) (said c t)
 
 -- the first edge that the token goes along; none where no text goes on with it

@@ -1,6 +1,6 @@
 -- What the tokens of a text come to: the tree of the text, or why there is none.
 use Rattle.std.specs.Prelude.{ℕ, [], map, reverse}
-use Rattle.std.proofs.Math.Option.{Option, none, some}
+use Rattle.std.specs.Prelude.{Option, None, Some}
 use Rattle.grammar.specs.Tree.{HeadTree, ItemTree, fact, fail, RuleTree, TableTree}
 use Rattle.text.specs.Tokens.{Lexed, end, no_token, next}
 use Rattle.parsing.specs.Progress.{Progress, declared, named, slashed, sized, ruled, head_named, head_wants, head_slot, head_done, head_next}
@@ -31,26 +31,26 @@ forward w = table_with (reverse w.arities) (reverse (map rule_forward w.rules))
 
 -- the tree of a text that ends here: behind a declaration or behind a rule
 unfoldable pub whole : Progress → Option TableTree
-whole (declared ns) = some (forward (table_with ns []))
-whole (named ns k) = none
-whole (slashed ns) = none
-whole (sized ns) = none
-whole (ruled w) = some (forward w)
-whole (head_named g hs k) = none
-whole (head_wants g hs k ts) = none
-whole (head_slot g hs k t ts) = none
-whole (head_done g hs h) = none
-whole (head_next g hs) = none
-whole (headed w kept removed) = none
-whole (wants s) = none
-whole (term s a) = none
-whole (operated s o a) = none
-whole (formed s f) = none
-whole (body g) = none
-whole (emptied g) = none
-whole (item_named g is k) = none
-whole (item_done g is i) = none
-whole (item_next g is) = none
+whole (declared ns) = Some (forward (table_with ns []))
+whole (named ns k) = None
+whole (slashed ns) = None
+whole (sized ns) = None
+whole (ruled w) = Some (forward w)
+whole (head_named g hs k) = None
+whole (head_wants g hs k ts) = None
+whole (head_slot g hs k t ts) = None
+whole (head_done g hs h) = None
+whole (head_next g hs) = None
+whole (headed w kept removed) = None
+whole (wants s) = None
+whole (term s a) = None
+whole (operated s o a) = None
+whole (formed s f) = None
+whole (body g) = None
+whole (emptied g) = None
+whole (item_named g is k) = None
+whole (item_done g is i) = None
+whole (item_next g is) = None
 
 -- ---- the whole text
 
@@ -63,8 +63,8 @@ pub data Parsed : Type 0 where
   unfinished : Parsed
 
 unfoldable pub ended : Option TableTree → Parsed
-ended none = unfinished
-ended (some w) = tree w
+ended None = unfinished
+ended (Some w) = tree w
 
 -- behind the first token with which no text goes on, at p, there may still be a byte that is no token
 unfoldable pub wrong_from : ℕ → Lexed → Parsed
@@ -73,8 +73,8 @@ wrong_from p (no_token q) = strange q
 wrong_from p (next q t more) = wrong_from p more
 
 unfoldable pub go_on : ℕ → Lexed → (Progress → Parsed) → Option Progress → Parsed
-go_on p more on none = wrong_from p more
-go_on p more on (some s) = on s
+go_on p more on None = wrong_from p more
+go_on p more on (Some s) = on s
 
 unfoldable pub parsed_from : Progress → Lexed → Parsed
 parsed_from s end = ended (whole s)

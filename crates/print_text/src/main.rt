@@ -3,23 +3,26 @@
 // each refusal lies before.
 #![tactic(auto)]
 
-use printing::{put_front, put_refusal};
+use printing::{Stream, put_refusal};
+use std::fmt;
 
-// The stream that a program reads.
-const STDIN_FILENO: i32 = 0;
+// The most bytes of an input, and of a text.
+const ROOM: usize = 65536;
 
-fn print(table: &[u8]) {
-    let mut text = io::large_buffer();
-    let r = text_printer::print_text(table, &mut text);
-    let result = r.result;
-    if result.number != 0 {
-        put_refusal(result);
+fn print(table: &[u8]) -> fmt::Result {
+    let mut text = [0; ROOM];
+    let printed = text_printer::print_text(table, &mut text);
+    if printed.result.number != 0 {
+        return put_refusal(printed.result);
     }
-    put_front(&text, r.length);
+    if let Some(bytes) = text.get(..printed.length as usize) {
+        Stream::output().put_bytes(bytes);
+    }
+    Ok(())
 }
 
 fn main() {
-    let mut space = io::large_buffer();
-    let n = io::read_full(STDIN_FILENO, &mut space);
-    print(&space[..n]);
+    let mut space = [0; ROOM];
+    let n = io::read_full(Stream::INPUT, &mut space);
+    let _ = print(&space[..n]);
 }

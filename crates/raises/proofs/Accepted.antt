@@ -3,15 +3,14 @@
 -- symbol. Asks that each removed head's symbol is declared and that there are at most 32 symbols, as in a good table.
 use Prim.Native.Nat.{ℕ, zero, suc, ◌+◌, ◌*◌, ◌<◌, ◌≤◌}
 use mathlib.Core.Path.{◌≡◌, refl, ◌∙◌}
-use mathlib.Core.Option.{none, some}
 use mathlib.Core.List.{List, [], ◌∷◌}
 use native.Mathlib.Omega.{arith}
 use lib.ListN.{length, get_or, set, replicate, length-set, length-replicate}
+use Rattle.std.specs.Prelude.{Option, Some, None}
 use Rattle.model.specs.Table.{Head, Rule, no_rule}
 use Rattle.model.specs.Weights.{weight_in, first_zero, first_heavy}
 use Rattle.model.proofs.Every.{every, every-at}
-use Rattle.raise.specs.declared.Change.{Change}
-use Rattle.raise.specs.declared.Change.TheVariants.{To, Nothing}
+use Rattle.raise.specs.declared.NewWeight.{NewWeight}
 use Rattle.raise.specs.Raise.{to, raise_of}
 use Rattle.raise.proofs.Raising.{raised}
 use Rattle.raises.specs.Search.{most_raises, Sought, found, stopped, search_from, search_of}
@@ -39,7 +38,7 @@ pub record Weight (i w : ℕ) : Type 0 where
   pub low : 1 ≤ w
   pub high : w ≤ 255
 
-no-zero : (k : ℕ) (ws : List ℕ) → Each ws Weight → first_zero k ws ≡ none
+no-zero : (k : ℕ) (ws : List ℕ) → Each ws Weight → first_zero k ws ≡ None
 unfolding first_zero
 no-zero k [] p = refl
 no-zero k (zero ∷ ws) p = absurd (omega (arith, (p 0).low))
@@ -122,13 +121,13 @@ ones-kept symbols h = record {
 
 pub record Accepted (rules : List Rule) (symbols : ℕ) (ws : List ℕ) : Type 0 where
   pub long : length ws ≡ symbols
-  pub something : first_zero 0 ws ≡ none
-  pub loses : first_heavy (weight_in ws) 0 rules ≡ none
+  pub something : first_zero 0 ws ≡ None
+  pub loses : first_heavy (weight_in ws) 0 rules ≡ None
 
 -- with these weights r is the first rule that does not lose weight, and it cannot be raised
 pub record Stuck (rules : List Rule) (r : ℕ) (ws : List ℕ) : Type 0 where
-  pub heavy : first_heavy (weight_in ws) 0 rules ≡ some r
-  pub full : raise_of ws (get_or rules r no_rule) ≡ Nothing
+  pub heavy : first_heavy (weight_in ws) 0 rules ≡ Some (record { 0 = r })
+  pub full : raise_of ws (get_or rules r no_rule) ≡ None
 
 abbrev pub Settled : List Rule → ℕ → Sought → Type 0
 Settled rules symbols (found ws) = Accepted rules symbols ws
@@ -139,11 +138,11 @@ module _ (rules : List Rule) (symbols : ℕ) (declared : Declared rules symbols)
   settled (found ws) e = record { long = e.kept.long; something = no-zero 0 ws e.kept.weights; loses = e.loses }
   settled (stopped r ws) e = record { heavy = e.heavy; full = go (raise_of ws (get_or rules r no_rule)) refl }
     where
-      go : (c : Change) → raise_of ws (get_or rules r no_rule) ≡ c → raise_of ws (get_or rules r no_rule) ≡ Nothing
-      go (To s x) q =
-          let none-left : Kept symbols 0 ws = rw (e.stuck s.0 x.0 q) at e.kept in
-          absurd (all-raised rules symbols declared ws r s.0 x.0 none-left (heavy-at (weight_in ws) rules r e.heavy) q)
-      go Nothing q = q
+      go : (c : Option NewWeight) → raise_of ws (get_or rules r no_rule) ≡ c → raise_of ws (get_or rules r no_rule) ≡ None
+      go (Some x) q =
+          let none-left : Kept symbols 0 ws = rw (e.stuck x.symbol.0 x.weight q) at e.kept in
+          absurd (all-raised rules symbols declared ws r x.symbol.0 x.weight none-left (heavy-at (weight_in ws) rules r e.heavy) q)
+      go None q = q
 
   pub search-settles : Settled rules symbols (search_of rules symbols)
   unfolding search_of

@@ -3,11 +3,11 @@
 -- raise is never above 255, and the search can stop only where weights are found.
 use Prim.Native.Nat.{ℕ, suc, ◌+◌, ◌≤◌}
 use mathlib.Core.Path.{◌≡◌, refl, sym, ap, ◌∙◌}
-use mathlib.Core.Option.{none}
 use mathlib.Core.List.{List, [], ◌∷◌}
 use native.Mathlib.Omega.{arith}
 use lib.ListN.{length, get_or, set, replicate}
 use borrow.Author.Tests.{le-leb}
+use Rattle.std.specs.Prelude.{None}
 use Rattle.model.specs.declared.Symbol.{Symbol}
 use Rattle.model.specs.Table.{Head, Rule, no_rule, BodyItem, body_fact, body_fail}
 use Rattle.model.specs.Weights.{weight_in, heads_weight, body_weight, first_heavy}
@@ -50,7 +50,7 @@ body-below vs ws b (body_fail ∷ is) = body-below vs ws b is
 
 -- ---- a raise
 
-module _ (rules : List Rule) (one : OneRemoved rules) (vs : List ℕ) (weights : Each vs Weight) (loses : first_heavy (weight_in vs) 0 rules ≡ none) where
+module _ (rules : List Rule) (one : OneRemoved rules) (vs : List ℕ) (weights : Each vs Weight) (loses : first_heavy (weight_in vs) 0 rules ≡ None) where
   module _ (ws : List ℕ) (below : Below vs ws) (r : ℕ) (h : Heavy (weight_in ws) rules r) where
     abbrev rule : Rule
     rule = get_or rules r no_rule
@@ -97,7 +97,7 @@ pub record Least (rules : List Rule) (symbols : ℕ) (vs : List ℕ) : Type 0 wh
 
 module _ (rules : List Rule) (symbols : ℕ) (declared : Declared rules symbols) (few : symbols ≤ 32) (one : OneRemoved rules) (vs : List ℕ)
     (weights : Each vs Weight)
-    (loses : first_heavy (weight_in vs) 0 rules ≡ none) where
+    (loses : first_heavy (weight_in vs) 0 rules ≡ None) where
   keeps : (n : ℕ) (ws : List ℕ) (r s x : ℕ) → Low symbols vs (suc n) ws → Heavy (weight_in ws) rules r → raise_of ws (get_or rules r no_rule) ≡ to s x
       → Low symbols vs n (set ws s x)
   keeps n ws r s x l h e = record {

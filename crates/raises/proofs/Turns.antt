@@ -2,29 +2,24 @@
 -- weight is a rule of the table, and its heads' symbols are declared.
 use Prim.Native.Nat.{ℕ, zero, suc, ◌-◌, ◌<◌, ◌≤◌}
 use mathlib.Core.Path.{◌≡◌, refl, sym, ap, ◌∙◌}
-use mathlib.Core.Option.{Option, none, some}
 use mathlib.Core.List.{List}
 use native.Mathlib.Omega.{arith}
 use lib.ListN.{length, get_or, set, length-set}
+use Rattle.std.specs.Prelude.{Option, Some, None}
 use Rattle.model.specs.declared.Symbol.{Symbol}
 use Rattle.model.specs.declared.RuleNumber.{RuleNumber}
 use Rattle.model.specs.declared.Reading.{Reading}
-use Rattle.model.specs.Limits.{most_rules}
 use Rattle.model.specs.Reading.{no_shape, read_of}
 use Rattle.model.specs.Table.{Rule, no_rule, table_of, rule_of, rule_at}
 use Rattle.model.specs.Weights.{weight_in, first_heavy}
 use Rattle.model.proofs.Good.{GoodRule}
 use Rattle.model.proofs.Decoded.{rules-length, rule-at}
-use Rattle.rule_weights.specs.declared.FirstRule.{FirstRule}
-use Rattle.rule_weights.specs.declared.FirstRule.TheVariants as outcome
-use Rattle.rule_weights.specs.Views.{Known, Lies, first_rule}
-use Rattle.rule_weights.proofs.Turns.{known-good, few-rules, lies, heavy-at as found-at, heavy-none as Found-None}
-use Rattle.raise.specs.declared.Weight.{Weight}
-use Rattle.raise.specs.declared.Change.{Change}
-use Rattle.raise.specs.declared.Change.TheVariants.{To, Nothing}
+use Rattle.rule_weights.specs.Views.{Known}
+use Rattle.rule_weights.proofs.Turns.{known-good}
+use Rattle.raise.specs.declared.NewWeight.{NewWeight}
 use Rattle.raise.specs.Raise.{to, raise_of}
 use Rattle.raise.proofs.Raising.{to-head, first-removed, lack}
-use Rattle.raises.specs.Search.{most_raises, Sought, sought_as, raise_then, heavy_then, search_from}
+use Rattle.raises.specs.Search.{Sought, sought_as, raise_then, heavy_then, search_from}
 use Rattle.raises.proofs.Ends.{heavy-at}
 
 -- ---- the search
@@ -33,8 +28,8 @@ module _ {t : List ℕ} {r : Reading} (k : Known t r) where
   rules-long : length (table_of t).rules ≡ r.rules
   rules-long = rules-length t (known-good k).shapes (known-good k).few_rules ∙ ap (λ (r : Reading). r.rules) (sym k.same)
 
-  pub heavy-rule : (w : Symbol → ℕ) (n : ℕ) → first_heavy w 0 (table_of t).rules ≡ some n → n < r.rules
-  heavy-rule w n e = omega (arith, (heavy-at w (table_of t).rules n e).inside, rules-long)
+  pub heavy-rule : (w : Symbol → ℕ) (n : RuleNumber) → first_heavy w 0 (table_of t).rules ≡ Some n → n.0 < r.rules
+  heavy-rule w n e = omega (arith, (heavy-at w (table_of t).rules n.0 e).inside, rules-long)
 
   pub rule-here : (n : ℕ) → n < r.rules → get_or (table_of t).rules n no_rule ≡ rule_of t (get_or r.shapes n no_shape)
   unfolding rule_at
@@ -43,7 +38,7 @@ module _ {t : List ℕ} {r : Reading} (k : Known t r) where
       rw k.same (rule-at t (known-good k).shapes (known-good k).few_rules (record { 0 = n }) m)
 
   -- the symbol that is raised is declared
-  pub raise-declared : (ws : List ℕ) (n : ℕ) {c : Change} {s x : ℕ} → n < r.rules → c ≡ raise_of ws (rule_of t (get_or r.shapes n no_shape))
+  pub raise-declared : (ws : List ℕ) (n : ℕ) {c : Option NewWeight} {s x : ℕ} → n < r.rules → c ≡ raise_of ws (rule_of t (get_or r.shapes n no_shape))
       → c ≡ to s x → s < r.symbols
   unfolding raise_of
   raise-declared ws n {s = s} {x} h e d =
@@ -67,61 +62,48 @@ module _ (rules : List Rule) (ws : List ℕ) where
   search-out (suc n) h = absurd (omega arith)
 
 -- what is left of the search, with n raises from ws on, answers for the whole of it
-pub record Left (t : List ℕ) (r : Reading) (whole : Sought) (ws : List ℕ) (n : ℕ) : Type 0 where
-  pub known : Known t r
-  pub long : length ws ≡ r.symbols
+pub record Left (t : List ℕ) (whole : Sought) (symbols : ℕ) (ws : List ℕ) (n : ℕ) : Type 0 where
+  pub long : length ws ≡ symbols
   pub same : whole ≡ search_from n (table_of t).rules ws
 
-pub search-begins : {t : List ℕ} {r : Reading} (ws : List ℕ) → Known t r → length ws ≡ r.symbols
-    → Left t r (search_from most_raises (table_of t).rules ws) ws most_raises
-search-begins ws k l = record { known = k; long = l; same = refl }
-
-module _ {t : List ℕ} {r : Reading} {whole : Sought} {ws : List ℕ} {n : ℕ} (l : Left t r whole ws n) where
-  pub search-ends : {o : Option ℕ} → o ≡ first_heavy (weight_in ws) 0 (table_of t).rules → n ≤ 0 → sought_as ws o ≡ whole
+module _ {t : List ℕ} {r : Reading} (k : Known t r) {whole : Sought} {ws : List ℕ} {n : ℕ} (l : Left t whole r.symbols ws n) where
+  pub search-ends : {o : Option RuleNumber} → o ≡ first_heavy (weight_in ws) 0 (table_of t).rules → n ≤ 0 → sought_as ws o ≡ whole
   search-ends e h = ap (sought_as ws) e ∙ sym (l.same ∙ search-out (table_of t).rules ws n h)
 
   module _ (h : 0 < n) where
-    turn : (o : Option ℕ) → first_heavy (weight_in ws) 0 (table_of t).rules ≡ o
+    turn : (o : Option RuleNumber) → o ≡ first_heavy (weight_in ws) 0 (table_of t).rules
         → whole ≡ heavy_then (table_of t).rules ws (search_from (n - 1) (table_of t).rules) o
-    turn o q = l.same ∙ search-turn (table_of t).rules ws n h ∙ ap (heavy_then (table_of t).rules ws (search_from (n - 1) (table_of t).rules)) q
+    turn o q = l.same ∙ search-turn (table_of t).rules ws n h ∙ ap (heavy_then (table_of t).rules ws (search_from (n - 1) (table_of t).rules)) (sym q)
 
-    pub search-finds : {f : FirstRule} → f ≡ outcome.Nothing → first_rule f ≡ first_heavy (weight_in ws) 0 (table_of t).rules
-        → sought_as ws (first_rule outcome.Nothing) ≡ whole
-    unfolding heavy_then sought_as first_rule
-    search-finds q e = sym (turn none (Found-None _ e q))
+    pub search-finds : None ≡ first_heavy (weight_in ws) 0 (table_of t).rules → sought_as ws None ≡ whole
+    unfolding heavy_then sought_as
+    search-finds e = sym (turn None e)
 
-    module _ {f : FirstRule} {rule : RuleNumber} (q : f ≡ outcome.At rule) (e : first_rule f ≡ first_heavy (weight_in ws) 0 (table_of t).rules) where
-      abbrev i : ℕ
-      i = rule.0
+    module _ {i : RuleNumber} (e : Some i ≡ first_heavy (weight_in ws) 0 (table_of t).rules) where
+      pub inside : i.0 < r.rules
+      inside = heavy-rule k (weight_in ws) i (sym e)
 
-      heavy : first_heavy (weight_in ws) 0 (table_of t).rules ≡ some i
-      heavy = found-at _ e q
-
-      inside : i < r.rules
-      inside = heavy-rule l.known (weight_in ws) i heavy
-
-      pub shape-inside : i < most_rules
-      shape-inside = omega (arith, inside, few-rules l.known)
-
-      pub shape-lies : Lies t (get_or r.shapes i no_shape)
-      shape-lies = lies l.known inside
-
-      module _ {c : Change} (d : c ≡ raise_of ws (rule_of t (get_or r.shapes i no_shape))) where
-        raised : (c' : Change) → c ≡ c' → whole ≡ raise_then ws i (search_from (n - 1) (table_of t).rules) c'
+      module _ {c : Option NewWeight} (d : c ≡ raise_of ws (rule_of t (get_or r.shapes i.0 no_shape))) where
+        raised : whole ≡ raise_then ws i.0 (search_from (n - 1) (table_of t).rules) c
         unfolding heavy_then
-        raised c' z =
-            turn (some i) heavy
-            ∙ ap (λ (x : Rule). raise_then ws i (search_from (n - 1) (table_of t).rules) (raise_of ws x)) (rule-here l.known i inside)
-            ∙ ap (raise_then ws i (search_from (n - 1) (table_of t).rules)) (sym d ∙ z)
+        raised =
+            turn (Some i) e
+            ∙ ap (λ (x : Rule). raise_then ws i.0 (search_from (n - 1) (table_of t).rules) (raise_of ws x)) (rule-here k i.0 inside)
+            ∙ ap (raise_then ws i.0 (search_from (n - 1) (table_of t).rules)) (sym d)
 
-        pub search-stops : c ≡ Nothing → sought_as ws (first_rule (outcome.At rule)) ≡ whole
-        unfolding raise_then sought_as first_rule
-        search-stops z = sym (raised Nothing z)
+        pub search-stops : c ≡ None → sought_as ws (Some i) ≡ whole
+        unfolding raise_then sought_as
+        search-stops z = sym (raised ∙ ap (raise_then ws i.0 (search_from (n - 1) (table_of t).rules)) z)
 
-        module _ {s : Symbol} {x : Weight} (z : c ≡ To s x) where
-          pub symbol-inside : s.0 < length ws
-          symbol-inside = omega (arith, raise-declared l.known ws i inside d z, l.long)
+        module _ {x : NewWeight} (z : c ≡ Some x) where
+          pub symbol-inside : x.symbol.0 < length ws
+          symbol-inside = omega (arith, raise-declared k ws i.0 inside d z, l.long)
 
-          pub search-goes-on : Left t r whole (set ws s.0 x.0) (n - 1)
+          pub search-goes-on : {s m : ℕ} → s ≡ x.symbol.0 → m ≡ n - 1 → Left t whole r.symbols (set ws s x.weight) m
           unfolding raise_then
-          search-goes-on = record { known = l.known; long = length-set ws s.0 x.0 ∙ l.long; same = raised (To s x) z }
+          search-goes-on {s} {m} f g =
+              rw (f, g)
+              (record {
+                long = length-set ws x.symbol.0 x.weight ∙ l.long;
+                same = raised ∙ ap (raise_then ws i.0 (search_from (n - 1) (table_of t).rules)) z;
+              })

@@ -1,8 +1,8 @@
 -- Two tables, worked: weights are found for `a <=> b, b`, and none for `a, b <=> a, a`, though 1 and 2 make it lose weight.
 use Prim.Native.Nat.{ℕ}
 use mathlib.Core.Path.{◌≡◌, refl}
-use mathlib.Core.Option.{none}
 use mathlib.Core.List.{List, [], ◌∷◌}
+use Rattle.std.specs.Prelude.{None}
 use Rattle.model.specs.Table.{Head, Rule, BodyItem, body_fact}
 use Rattle.model.specs.Weights.{weight_in, heads_weight, body_weight, first_heavy}
 use Rattle.raise.specs.Raise.{raise_by, raise_of}
@@ -25,6 +25,6 @@ pub missed : search_of (simplifies (head 0 ∷ head 1 ∷ []) (fact 0 ∷ fact 0
 unfolding search_of search_from heavy_then raise_then raise_of raise_by first_heavy heads_weight body_weight
 missed = refl
 
-pub though-light : first_heavy (weight_in (1 ∷ 2 ∷ [])) 0 (simplifies (head 0 ∷ head 1 ∷ []) (fact 0 ∷ fact 0 ∷ [])) ≡ none
+pub though-light : first_heavy (weight_in (1 ∷ 2 ∷ [])) 0 (simplifies (head 0 ∷ head 1 ∷ []) (fact 0 ∷ fact 0 ∷ [])) ≡ None
 unfolding first_heavy heads_weight body_weight
 though-light = refl

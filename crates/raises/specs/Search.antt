@@ -1,11 +1,10 @@
 -- A search for weights with which every rule loses weight. All weights begin at 1. While a rule does not lose weight, the first such rule has the
 -- symbol of its first removed head raised (`raise_of`).
-use Rattle.std.specs.Prelude.{ℕ, zero, suc, List, get_or, set, replicate}
-use Rattle.std.proofs.Math.Option.{Option, none, some}
+use Rattle.std.specs.Prelude.{ℕ, zero, suc, List, get_or, set, replicate, Option, Some, None}
+use Rattle.model.specs.declared.RuleNumber.{RuleNumber}
 use Rattle.model.specs.Table.{Rule, no_rule}
 use Rattle.model.specs.Weights.{weight_in, first_heavy}
-use Rattle.raise.specs.declared.Change.{Change}
-use Rattle.raise.specs.declared.Change.TheVariants.{To, Nothing}
+use Rattle.raise.specs.declared.NewWeight.{NewWeight}
 use Rattle.raise.specs.Raise.{raise_of}
 
 -- how a search ends, with the weights as they stand: every rule loses weight, or this one does not and cannot be raised
@@ -14,17 +13,17 @@ pub data Sought : Type 0 where
   stopped : ℕ → List ℕ → Sought
 
 -- by the first rule that does not lose weight
-unfoldable pub sought_as : List ℕ → Option ℕ → Sought
-sought_as ws none = found ws
-sought_as ws (some r) = stopped r ws
+unfoldable pub sought_as : List ℕ → Option RuleNumber → Sought
+sought_as ws None = found ws
+sought_as ws (Some r) = stopped r.0 ws
 
-unfoldable pub raise_then : List ℕ → ℕ → (List ℕ → Sought) → Change → Sought
-raise_then ws r more (To s w) = more (set ws s.0 w.0)
-raise_then ws r more Nothing = stopped r ws
+unfoldable pub raise_then : List ℕ → ℕ → (List ℕ → Sought) → Option NewWeight → Sought
+raise_then ws r more (Some x) = more (set ws x.symbol.0 x.weight)
+raise_then ws r more None = stopped r ws
 
-unfoldable pub heavy_then : List Rule → List ℕ → (List ℕ → Sought) → Option ℕ → Sought
-heavy_then rules ws more none = found ws
-heavy_then rules ws more (some r) = raise_then ws r more (raise_of ws (get_or rules r no_rule))
+unfoldable pub heavy_then : List Rule → List ℕ → (List ℕ → Sought) → Option RuleNumber → Sought
+heavy_then rules ws more None = found ws
+heavy_then rules ws more (Some r) = raise_then ws r.0 more (raise_of ws (get_or rules r.0 no_rule))
 
 -- at most n raises
 unfoldable pub search_from : ℕ → List Rule → List ℕ → Sought

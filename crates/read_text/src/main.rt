@@ -2,30 +2,26 @@
 // there: the number and the place of the refusal go to the standard error.
 #![tactic(auto)]
 
-use printing::{put_front, put_refusal};
+use printing::{Stream, put_refusal};
+use std::fmt;
 use text_reader::LONGEST_TEXT;
 
-// The stream that a program reads.
-const STDIN_FILENO: i32 = 0;
-
-// Room for a byte more than a text may have, so that a text that is too long is refused as one.
-fn room() -> [u8; LONGEST_TEXT + 1] {
-    [0; LONGEST_TEXT + 1]
-}
-
-// A good table is shorter than the longest text.
-fn read(text: &[u8]) {
-    let mut table = io::large_buffer();
-    let r = text_reader::read_text(text, &mut table);
-    let result = r.result;
-    if result.number != 0 {
-        put_refusal(result);
+fn read(text: &[u8]) -> fmt::Result {
+    // Longer than any good table, so that the check says what is wrong with one that is too long.
+    let mut table = [0; LONGEST_TEXT];
+    let read = text_reader::read_text(text, &mut table);
+    if read.result.number != 0 {
+        return put_refusal(read.result);
     }
-    put_front(&table, r.length);
+    if let Some(bytes) = table.get(..read.length as usize) {
+        Stream::output().put_bytes(bytes);
+    }
+    Ok(())
 }
 
 fn main() {
-    let mut space = room();
-    let n = io::read_full(STDIN_FILENO, &mut space);
-    read(&space[..n]);
+    // A byte more than a text may have, so that a text that is too long is refused as one.
+    let mut space = [0; LONGEST_TEXT + 1];
+    let n = io::read_full(Stream::INPUT, &mut space);
+    let _ = read(&space[..n]);
 }

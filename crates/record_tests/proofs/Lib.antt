@@ -1,3 +1,2 @@
 pub mod InOrder
-pub mod Counts
-pub mod Ends
+pub mod Chain

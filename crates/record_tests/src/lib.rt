@@ -1,65 +1,58 @@
 // The tests of one record, in the order 16, 17; 18, 21, 19; 20, 22, and what is known behind it.
 #![tactic(auto)]
 
-ghost use Rattle.std.specs.Prelude.{◌≡◌, false, ◌+◌, ◌^◌, ◌≤◌, ◌<◌, length};
+ghost use Rattle.std.specs.Prelude.{◌≡◌, false, cond, Ok, ◌+◌, ◌^◌, ◌≤◌, ◌<◌, length};
 ghost use Rattle.model.specs.declared.Kind.TheVariants.{NextSymbol};
 ghost use Rattle.model.specs.Limits.{most_symbols, most_rules, most_heads, most_guards, most_items};
 ghost use Rattle.model.specs.Records.{size_of, too_many};
 ghost use Rattle.variables.specs.Named.{Named};
-ghost use Rattle.model.specs.Reading.{with_symbol, with_rule, with_part, with_kept, with_removed, with_guard, with_item, behind, fields_of, ordered_of, tested_of};
-ghost use Rattle.model.specs.Reading.{record_of};
+ghost use Rattle.model.specs.Reading.{with_symbol, with_rule, with_part, with_kept, with_removed, with_guard, with_item, behind, record_of};
+ghost use Rattle.model.specs.Refusals.{refused};
 
-use model::{Kind, RecordStep, Rule, RuleShape, Scan};
+use model::{Behind, Kind, Reason, Refusal, Rule, RuleShape, Scan, Stage};
 use records::geometry::{FactBytes, GuardBytes, HeadBytes, SymbolBytes};
 use records::kinds;
 
 // ---- what is known behind a good record
 
-fn with_symbol(s: Scan) -> Scan
-    requires { (s.symbols < most_symbols) × (s.at + size_of NextSymbol < 2 ^ 64) }
-    ensures { result ≡ with_symbol s }
+fn with_symbol(s: &Scan) -> Scan
+    requires { (s.now.symbols < most_symbols) × (s.now.at + size_of NextSymbol < 2 ^ 64) }
+    ensures { result ≡ with_symbol s.now }
 {
-    let shape = s.shape;
     Scan {
         at: s.at + SymbolBytes::LEN,
-        stage: 0,
+        stage: Stage::SYMBOLS,
         symbols: s.symbols + 1,
-        rules: s.rules,
-        shape: shape,
+        ..*s
     }
 }
 
-fn with_rule(s: Scan) -> Scan
-    requires { (s.rules < most_rules) × (s.at < 2 ^ 32) }
-    ensures { result ≡ with_rule s }
+fn with_rule(s: &Scan) -> Scan
+    requires { (s.now.rules < most_rules) × (s.now.at < 2 ^ 32) }
+    ensures { result ≡ with_rule s.now }
 {
-    let shape = RuleShape {
-        start: s.at as u32,
-        kept: 0,
-        heads: 0,
-        guards: 0,
-        items: 0,
-    };
     Scan {
         at: s.at + 1,
-        stage: 1,
-        symbols: s.symbols,
+        stage: Stage::NO_HEAD,
         rules: s.rules + 1,
-        shape: shape,
+        shape: RuleShape {
+            start: s.at as u32,
+            ..RuleShape::default()
+        },
+        ..*s
     }
 }
 
 // The same rule, with one part more.
-fn with_part(s: Scan, size: usize, stage: u8, shape: RuleShape) -> Scan
-    requires { s.at + size < 2 ^ 64 }
-    ensures { result ≡ with_part s size stage shape }
+fn with_part(s: &Scan, size: usize, stage: u8, shape: RuleShape) -> Scan
+    requires { s.now.at + size < 2 ^ 64 }
+    ensures { result ≡ with_part s.now size stage shape }
 {
     Scan {
         at: s.at + size,
-        stage: stage,
-        symbols: s.symbols,
-        rules: s.rules,
-        shape: shape,
+        stage,
+        shape,
+        ..*s
     }
 }
 
@@ -69,24 +62,20 @@ fn with_kept(r: RuleShape) -> RuleShape
     ensures { result ≡ with_kept r }
 {
     RuleShape {
-        start: r.start,
         kept: r.heads + 1,
         heads: r.heads + 1,
-        guards: r.guards,
-        items: r.items,
+        ..r
     }
 }
 
+// Kept: a function for each count (with_removed, with_guard, with_item), since no parameter names a field.
 fn with_removed(r: RuleShape) -> RuleShape
     requires { r.heads < most_heads }
     ensures { result ≡ with_removed r }
 {
     RuleShape {
-        start: r.start,
-        kept: r.kept,
         heads: r.heads + 1,
-        guards: r.guards,
-        items: r.items,
+        ..r
     }
 }
 
@@ -95,11 +84,8 @@ fn with_guard(r: RuleShape) -> RuleShape
     ensures { result ≡ with_guard r }
 {
     RuleShape {
-        start: r.start,
-        kept: r.kept,
-        heads: r.heads,
         guards: r.guards + 1,
-        items: r.items,
+        ..r
     }
 }
 
@@ -108,92 +94,72 @@ fn with_item(r: RuleShape) -> RuleShape
     ensures { result ≡ with_item r }
 {
     RuleShape {
-        start: r.start,
-        kept: r.kept,
-        heads: r.heads,
-        guards: r.guards,
         items: r.items + 1,
+        ..r
     }
 }
 
-fn behind(s: Scan, k: Kind) -> RecordStep
-    requires { (too_many k s ≡ false) × (s.at < 2 ^ 32) }
-    ensures { result ≡ behind s k }
+fn behind(s: &Scan, k: Kind) -> Behind
+    requires { (too_many k s.now ≡ false) × (s.now.at < 2 ^ 32) }
+    ensures { result ≡ behind s.now k }
 {
     let shape = s.shape;
-    match k {
-        Kind::NextSymbol => RecordStep::Next(with_symbol(s)),
-        Kind::NextRule => RecordStep::Next(with_rule(s)),
-        Kind::KeptHead => RecordStep::Next(with_part(s, HeadBytes::LEN, 2, with_kept(shape))),
-        Kind::RemovedHead => RecordStep::Next(with_part(s, HeadBytes::LEN, 3, with_removed(shape))),
-        Kind::Comparison => RecordStep::Next(with_part(s, GuardBytes::LEN, 4, with_guard(shape))),
-        Kind::BodyFact => RecordStep::Next(with_part(s, FactBytes::LEN, 5, with_item(shape))),
-        Kind::BodyFail => RecordStep::Next(with_part(s, 1, 5, with_item(shape))),
-        Kind::EndOfTable => RecordStep::Done(s.at + 1),
-        Kind::Unknown => RecordStep::Stop(16, s.at),
-    }
+    let next = match k {
+        Kind::NextSymbol => with_symbol(s),
+        Kind::NextRule => with_rule(s),
+        Kind::KeptHead => with_part(s, HeadBytes::LEN, Stage::KEPT_HEADS, with_kept(shape)),
+        Kind::RemovedHead => with_part(
+            s,
+            HeadBytes::LEN,
+            Stage::REMOVED_HEADS,
+            with_removed(shape),
+        ),
+        Kind::Comparison => with_part(s, GuardBytes::LEN, Stage::GUARDS, with_guard(shape)),
+        Kind::BodyFact => with_part(s, FactBytes::LEN, Stage::BODY, with_item(shape)),
+        Kind::BodyFail => with_part(s, 1, Stage::BODY, with_item(shape)),
+        Kind::EndOfTable => return Behind::Done(s.at + 1),
+    };
+    Behind::Next(next)
 }
 
-// ---- the tests of a record of kind k, in three layers
+// ---- the tests of a record, in the order in which they are tried
 
-// 20, 22
-fn fields(table: &[u8], s: Scan, k: Kind, named: &[bool; Rule::VARIABLES]) -> RecordStep
-    requires { (too_many k s ≡ false) × (s.at + size_of k ≤ length table.now) × (s.at < 2 ^ 32) × Named table.now s.shape named.now }
-    ensures { result ≡ fields_of table.now s k }
+// Refuses the record at `at` that fails a test.
+fn refuse_if(failed: bool, reason: Reason, at: usize) -> Result<(), Refusal>
+    requires { at < 2 ^ 32 }
+    ensures { result ≡ cond failed (refused reason at) (Ok tt) }
 {
-    let at = s.at;
-    if fields::bad_field(table, s, k) {
-        return RecordStep::Stop(20, at);
+    if failed {
+        return Err(Refusal::at(reason, at));
     }
-    if variables::strange(table, s, k, named) {
-        return RecordStep::Stop(22, at);
-    }
-    behind(s, k)
-}
-
-// 18, 21, 19
-fn ordered(table: &[u8], s: Scan, k: Kind, named: &[bool; Rule::VARIABLES]) -> RecordStep
-    requires { (s.at + size_of k ≤ length table.now) × (s.at < 2 ^ 32) × Named table.now s.shape named.now }
-    ensures { result ≡ ordered_of table.now s k }
-{
-    let at = s.at;
-    if kinds::out_of_order(k, s.stage) {
-        return RecordStep::Stop(18, at);
-    }
-    if kinds::headless(k, s.stage) {
-        return RecordStep::Stop(21, at);
-    }
-    if kinds::too_many(k, s) {
-        return RecordStep::Stop(19, at);
-    }
-    fields(table, s, k, named)
-}
-
-// 16, 17
-fn tested(table: &[u8], s: Scan, k: Kind, named: &[bool; Rule::VARIABLES]) -> RecordStep
-    requires { (s.at < length table.now) × (s.at < 2 ^ 32) × Named table.now s.shape named.now }
-    ensures { result ≡ tested_of table.now s k }
-{
-    let at = s.at;
-    let size = kinds::size_of(k);
-    if size == 0 {
-        return RecordStep::Stop(16, at);
-    }
-    if table.len() - at < size {
-        return RecordStep::Stop(17, at);
-    }
-    ordered(table, s, k, named)
+    Ok(())
 }
 
 // The record where the scan stands; the variables of the heads of the rule that is being read are marked.
-pub fn read_record(table: &[u8], s: Scan, named: &[bool; Rule::VARIABLES]) -> RecordStep
-    requires { (s.at < 2 ^ 32) × Named table.now s.shape named.now }
-    ensures { result ≡ record_of table.now s }
+pub fn read_record(
+    table: &[u8],
+    s: &Scan,
+    named: &[bool; Rule::VARIABLES],
+) -> Result<Behind, Refusal>
+    requires { (s.now.at < 2 ^ 32) × Named table.now s.now.shape named.now }
+    ensures { result ≡ record_of table.now s.now }
 {
     let at = s.at;
     if table.len() <= at {
-        return RecordStep::Stop(17, table.len());
+        return Err(Refusal::at(Reason::CutShort, table.len()));
     }
-    let k = kinds::kind_of(table[at]);
-    tested(table, s, k, named)
+    let Some(k) = kinds::kind_of(table[at]) else {
+        return Err(Refusal::at(Reason::UnknownKind, at));
+    };
+    refuse_if(table.len() - at < kinds::size_of(k), Reason::CutShort, at)?;
+    refuse_if(kinds::out_of_order(k, s.stage), Reason::OutOfOrder, at)?;
+    refuse_if(kinds::headless(k, s.stage), Reason::Headless, at)?;
+    refuse_if(kinds::too_many(k, s), Reason::TooMany, at)?;
+    refuse_if(fields::bad_field(table, s, k), Reason::BadField, at)?;
+    refuse_if(
+        variables::strange(table, s, k, named),
+        Reason::StrangeVariable,
+        at,
+    )?;
+    Ok(behind(s, k))
 }

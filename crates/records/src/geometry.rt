@@ -26,13 +26,6 @@ impl SlotBytes {
     pub const LEN: usize = 5;
 
     pub const VALUE: usize = 1;
-
-    // of four in a row, counted from the first
-    pub const SECOND: usize = SlotBytes::LEN;
-
-    pub const THIRD: usize = 2 * SlotBytes::LEN;
-
-    pub const FOURTH: usize = 3 * SlotBytes::LEN;
 }
 
 // "An expression is an operation byte and two slots"
@@ -44,13 +37,6 @@ impl ExpressionBytes {
     pub const LEFT: usize = 1;
 
     pub const RIGHT: usize = ExpressionBytes::LEFT + SlotBytes::LEN;
-
-    // of four in a row, counted from the first
-    pub const SECOND: usize = ExpressionBytes::LEN;
-
-    pub const THIRD: usize = 2 * ExpressionBytes::LEN;
-
-    pub const FOURTH: usize = 3 * ExpressionBytes::LEN;
 }
 
 // "kept / removed head: symbol, four slots"
@@ -63,11 +49,11 @@ impl HeadBytes {
 
     pub const SLOT_0: usize = 2;
 
-    pub const SLOT_1: usize = HeadBytes::SLOT_0 + SlotBytes::SECOND;
+    pub const SLOT_1: usize = HeadBytes::SLOT_0 + SlotBytes::LEN;
 
-    pub const SLOT_2: usize = HeadBytes::SLOT_0 + SlotBytes::THIRD;
+    pub const SLOT_2: usize = HeadBytes::SLOT_1 + SlotBytes::LEN;
 
-    pub const SLOT_3: usize = HeadBytes::SLOT_0 + SlotBytes::FOURTH;
+    pub const SLOT_3: usize = HeadBytes::SLOT_2 + SlotBytes::LEN;
 }
 
 // "guard comparison: comparator, two expressions"
@@ -80,7 +66,7 @@ impl GuardBytes {
 
     pub const LEFT: usize = 2;
 
-    pub const RIGHT: usize = GuardBytes::LEFT + ExpressionBytes::SECOND;
+    pub const RIGHT: usize = GuardBytes::LEFT + ExpressionBytes::LEN;
 }
 
 // "body fact: symbol, four expressions"
@@ -95,11 +81,11 @@ impl FactBytes {
 
     pub const ARGUMENT_0: usize = 2;
 
-    pub const ARGUMENT_1: usize = FactBytes::ARGUMENT_0 + ExpressionBytes::SECOND;
+    pub const ARGUMENT_1: usize = FactBytes::ARGUMENT_0 + ExpressionBytes::LEN;
 
-    pub const ARGUMENT_2: usize = FactBytes::ARGUMENT_0 + ExpressionBytes::THIRD;
+    pub const ARGUMENT_2: usize = FactBytes::ARGUMENT_1 + ExpressionBytes::LEN;
 
-    pub const ARGUMENT_3: usize = FactBytes::ARGUMENT_0 + ExpressionBytes::FOURTH;
+    pub const ARGUMENT_3: usize = FactBytes::ARGUMENT_2 + ExpressionBytes::LEN;
 }
 
 // ---- a goal's facts
@@ -109,13 +95,6 @@ pub struct NumberBytes;
 
 impl NumberBytes {
     pub const LEN: usize = 4;
-
-    // of four in a row, counted from the first
-    pub const SECOND: usize = NumberBytes::LEN;
-
-    pub const THIRD: usize = 2 * NumberBytes::LEN;
-
-    pub const FOURTH: usize = 3 * NumberBytes::LEN;
 }
 
 // "goal fact: symbol, four arguments"
@@ -128,11 +107,11 @@ impl GoalFactBytes {
 
     pub const ARGUMENT_0: usize = 2;
 
-    pub const ARGUMENT_1: usize = GoalFactBytes::ARGUMENT_0 + NumberBytes::SECOND;
+    pub const ARGUMENT_1: usize = GoalFactBytes::ARGUMENT_0 + NumberBytes::LEN;
 
-    pub const ARGUMENT_2: usize = GoalFactBytes::ARGUMENT_0 + NumberBytes::THIRD;
+    pub const ARGUMENT_2: usize = GoalFactBytes::ARGUMENT_1 + NumberBytes::LEN;
 
-    pub const ARGUMENT_3: usize = GoalFactBytes::ARGUMENT_0 + NumberBytes::FOURTH;
+    pub const ARGUMENT_3: usize = GoalFactBytes::ARGUMENT_2 + NumberBytes::LEN;
 }
 
 // ---- a rule's parts

@@ -3,38 +3,35 @@ ghost use Rattle.std.specs.Prelude.{◌≡◌};
 ghost use Rattle.model.specs.Records.{kind_of, size_of, earliest_of, latest_of, out_of_order, headless, too_many};
 
 use crate::geometry::{FactBytes, GuardBytes, HeadBytes, SymbolBytes};
-use model::{Kind, Rule, Scan, Table};
+use model::{Kind, Rule, Scan, Stage, Table};
 
-pub fn kind_of(b: u8) -> Kind
+// The kind of a record that begins with this byte.
+pub fn kind_of(b: u8) -> Option<Kind>
     ensures { result ≡ kind_of b }
 {
     match b {
-        1 => Kind::NextSymbol,
-        2 => Kind::NextRule,
-        3 => Kind::KeptHead,
-        4 => Kind::RemovedHead,
-        5 => Kind::Comparison,
-        6 => Kind::BodyFact,
-        7 => Kind::BodyFail,
-        8 => Kind::EndOfTable,
-        _ => Kind::Unknown,
+        1 => Some(Kind::NextSymbol),
+        2 => Some(Kind::NextRule),
+        3 => Some(Kind::KeptHead),
+        4 => Some(Kind::RemovedHead),
+        5 => Some(Kind::Comparison),
+        6 => Some(Kind::BodyFact),
+        7 => Some(Kind::BodyFail),
+        8 => Some(Kind::EndOfTable),
+        _ => None,
     }
 }
 
-// The length of a record, and 0 where no table has the kind.
+// The length of a record.
 pub fn size_of(k: Kind) -> usize
     ensures { result ≡ size_of k }
 {
     match k {
         Kind::NextSymbol => SymbolBytes::LEN,
-        Kind::NextRule => 1,
-        Kind::KeptHead => HeadBytes::LEN,
-        Kind::RemovedHead => HeadBytes::LEN,
+        Kind::KeptHead | Kind::RemovedHead => HeadBytes::LEN,
         Kind::Comparison => GuardBytes::LEN,
         Kind::BodyFact => FactBytes::LEN,
-        Kind::BodyFail => 1,
-        Kind::EndOfTable => 1,
-        Kind::Unknown => 0,
+        Kind::NextRule | Kind::BodyFail | Kind::EndOfTable => 1,
     }
 }
 
@@ -43,15 +40,8 @@ fn earliest(k: Kind) -> u8
     ensures { result ≡ earliest_of k }
 {
     match k {
-        Kind::NextSymbol => 0,
-        Kind::NextRule => 0,
-        Kind::KeptHead => 1,
-        Kind::RemovedHead => 1,
-        Kind::Comparison => 1,
-        Kind::BodyFact => 1,
-        Kind::BodyFail => 1,
-        Kind::EndOfTable => 0,
-        Kind::Unknown => 0,
+        Kind::NextSymbol | Kind::NextRule | Kind::EndOfTable => Stage::SYMBOLS,
+        _ => Stage::NO_HEAD,
     }
 }
 
@@ -60,15 +50,11 @@ fn latest(k: Kind) -> u8
     ensures { result ≡ latest_of k }
 {
     match k {
-        Kind::NextSymbol => 0,
-        Kind::NextRule => 5,
-        Kind::KeptHead => 2,
-        Kind::RemovedHead => 3,
-        Kind::Comparison => 4,
-        Kind::BodyFact => 5,
-        Kind::BodyFail => 5,
-        Kind::EndOfTable => 5,
-        Kind::Unknown => 5,
+        Kind::NextSymbol => Stage::SYMBOLS,
+        Kind::KeptHead => Stage::KEPT_HEADS,
+        Kind::RemovedHead => Stage::REMOVED_HEADS,
+        Kind::Comparison => Stage::GUARDS,
+        _ => Stage::BODY,
     }
 }
 
@@ -76,10 +62,7 @@ fn latest(k: Kind) -> u8
 pub fn out_of_order(k: Kind, stage: u8) -> bool
     ensures { result ≡ out_of_order k stage }
 {
-    if stage < earliest(k) {
-        return true;
-    }
-    latest(k) < stage
+    stage < earliest(k) || latest(k) < stage
 }
 
 // 21: a guard, body item, rule or end after a rule with no head.
@@ -87,31 +70,21 @@ pub fn headless(k: Kind, stage: u8) -> bool
     ensures { result ≡ headless k stage }
 {
     match k {
-        Kind::NextSymbol => false,
-        Kind::NextRule => stage == 1,
-        Kind::KeptHead => false,
-        Kind::RemovedHead => false,
-        Kind::Comparison => stage == 1,
-        Kind::BodyFact => stage == 1,
-        Kind::BodyFail => stage == 1,
-        Kind::EndOfTable => stage == 1,
-        Kind::Unknown => false,
+        Kind::NextSymbol | Kind::KeptHead | Kind::RemovedHead => false,
+        _ => stage == Stage::NO_HEAD,
     }
 }
 
 // 19: one too many of its sort.
-pub fn too_many(k: Kind, s: Scan) -> bool
-    ensures { result ≡ too_many k s }
+pub fn too_many(k: Kind, s: &Scan) -> bool
+    ensures { result ≡ too_many k s.now }
 {
     match k {
         Kind::NextSymbol => Table::SYMBOLS <= s.symbols as usize,
         Kind::NextRule => Table::RULES <= s.rules as usize,
-        Kind::KeptHead => Rule::HEADS <= s.shape.heads as usize,
-        Kind::RemovedHead => Rule::HEADS <= s.shape.heads as usize,
+        Kind::KeptHead | Kind::RemovedHead => Rule::HEADS <= s.shape.heads as usize,
         Kind::Comparison => Rule::GUARDS <= s.shape.guards as usize,
-        Kind::BodyFact => Rule::ITEMS <= s.shape.items as usize,
-        Kind::BodyFail => Rule::ITEMS <= s.shape.items as usize,
+        Kind::BodyFact | Kind::BodyFail => Rule::ITEMS <= s.shape.items as usize,
         Kind::EndOfTable => false,
-        Kind::Unknown => false,
     }
 }

@@ -9,22 +9,12 @@ use model::{Expression, Rule, Slot};
 fn slot_by(tag: u8, value: u32) -> Slot
     ensures { result ≡ slot_by tag value }
 {
-    if tag == 0 {
-        if value == 0 {
-            return Slot::Unused;
-        }
-        return Slot::Bad;
+    match tag {
+        0 if value == 0 => Slot::Unused,
+        1 => Slot::Constant(wire::signed(value)),
+        2 if (value as usize) < Rule::VARIABLES => Slot::Variable(value as u8),
+        _ => Slot::Bad,
     }
-    if tag == 1 {
-        return Slot::Constant(wire::signed(value));
-    }
-    if tag == 2 {
-        if (value as usize) < Rule::VARIABLES {
-            return Slot::Variable(value as u8);
-        }
-        return Slot::Bad;
-    }
-    Slot::Bad
 }
 
 // The slot whose five bytes start at p.

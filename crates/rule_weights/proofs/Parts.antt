@@ -1,112 +1,146 @@
--- The parts of a rule, one after the other: what a turn of each weighing loop adds. What is counted, with what is still to be counted, stays the
--- whole.
+-- The parts of a rule, one after the other: what a turn of each summing loop adds. What is summed, with what is still to be summed, stays the whole.
 use Prim.Native.Nat.{ℕ, zero, suc, ◌+◌, ◌-◌, ◌*◌, ◌<◌, ◌≤◌}
-use mathlib.Core.Path.{◌≡◌, refl, sym, ap, ◌∙◌}
+use mathlib.Core.Path.{◌≡◌, refl, sym, ap, subst, ◌∙◌}
 use mathlib.Core.Bool.{Bool, true, false}
-use mathlib.Core.List.{List, [], ◌∷◌}
+use mathlib.Core.List.{List}
 use native.Mathlib.Omega.{arith}
-use lib.ListN.{length, get_or, get_or-eq_default}
-use Rattle.model.specs.Table.{head_at, heads_from, is_fact, behind_item, body_fact_at, items_from}
-use Rattle.model.specs.Weights.{weight_in, heads_weight, body_weight}
-use Rattle.model.proofs.Decoded.{heads-first, items-first, item-fact, item-fail}
+use native.Mathlib.Nat.{mul-le-mul_left}
+use lib.ListN.{get_or}
+use Rattle.model.specs.declared.Symbol.{Symbol}
+use Rattle.model.specs.Table.{symbol_at, head_at, heads_from, is_fact, behind_item, body_fact_at, items_from}
+use Rattle.model.specs.Weights.{heads_weight, body_weight}
+use Rattle.model.proofs.Decoded.{items-first, item-fact, item-fail}
 use Rattle.records.specs.Geometry.{ItemsLie}
-use Rattle.records.proofs.PartsLie.{first-lies, rest-lies}
-use Rattle.rule_weights.specs.Views.{Counted, FewHeads, FewItems}
+use Rattle.records.proofs.PartsLie.{rest-lies}
+use Rattle.rule_weights.specs.Views.{Counted, Gives, rows_weight}
 
--- `sum` is counted and `rest` is left: `left` parts from p on, each of at most `unit` and in at most `step` bytes
-pub record Left (unit step top far whole rest sum p left : ℕ) : Type 0 where
+-- `sum` is summed, at most `most`, and `rest` is left
+pub record Part (whole rest most sum : ℕ) : Type 0 where
   pub same : sum + rest ≡ whole
-  pub few : sum + unit * left ≤ top
-  pub near : p + step * left ≤ far
+  pub few : sum ≤ most
 
-pub ended : {unit step top far whole rest sum p left : ℕ} → Left unit step top far whole rest sum p left → rest ≡ 0 → Counted whole top sum
-ended l e = record { same = omega (arith, l.same); few = omega (arith, l.few) }
+pub ended : {whole rest most sum : ℕ} → Part whole rest most sum → rest ≡ 0 → Counted whole most sum
+ended l e = record { same = omega (arith, l.same); few = l.few }
 
--- ---- a weight
+-- the same of k bytes, whatever they are: they fit, and where they are what w says, they are its part
+pub record Summed (post : Symbol → ℕ → Type 0) (whole rest : (Symbol → ℕ) → ℕ) (sum k : ℕ) : Type 0 where
+  pub fits : sum ≤ 255 * k
+  pub counts : (w : Symbol → ℕ) (top : ℕ) → Gives post w top → Part (whole w) (rest w) (top * k) sum
 
-inside : (l : List ℕ) (i : ℕ) → i < length l → get_or l i 0 ≡ get_or l i 1
-inside [] i h = absurd (omega arith)
-inside (x ∷ l) zero h = refl
-inside (x ∷ l) (suc i) h = inside l i (omega arith)
+module _ {post : Symbol → ℕ → Type 0} {whole rest : (Symbol → ℕ) → ℕ} {sum k : ℕ} (l : Summed post whole rest sum k) where
+  pub one-more : {rest' : (Symbol → ℕ) → ℕ} {b r : ℕ} → b < 256 → r < 256 → post (record { 0 = b }) r
+      → ((w : Symbol → ℕ) → rest w ≡ w (record { 0 = b }) + rest' w) → Summed post whole rest' (sum + r) (k + 1)
+  one-more {rest'} {b} {r} h f p e = record {
+    fits = omega (arith, l.fits);
+    counts = λ w top g.
+        let c = g.each (record { 0 = b }) r h f p in
+        let d = l.counts w top g in
+        record { same = omega (arith, d.same, c.same, e w); few = omega (arith, d.few, c.few) };
+  }
 
-pub weight-given : (weights : List ℕ) (i : ℕ) → i < length weights → get_or weights i 0 < 256 → Counted (get_or weights i 1) 255 (get_or weights i 0)
-weight-given weights i h b = record { same = inside weights i h; few = omega arith }
+  pub none-more : {rest' : (Symbol → ℕ) → ℕ} → ((w : Symbol → ℕ) → rest w ≡ rest' w) → Summed post whole rest' sum (k + 1)
+  none-more e = record {
+    fits = omega (arith, l.fits);
+    counts = λ w top g. let d = l.counts w top g in record { same = omega (arith, d.same, e w); few = omega (arith, d.few) };
+  }
 
-pub weight-missing : (weights : List ℕ) (i : ℕ) → length weights ≤ i → Counted (get_or weights i 1) 255 1
-weight-missing weights i h = record { same = sym (get_or-eq_default weights 1 h); few = omega arith }
+  pub summed : {n : ℕ} → k ≤ n → ((w : Symbol → ℕ) → rest w ≡ 0) → (w : Symbol → ℕ) (top : ℕ) → Gives post w top → Counted (whole w) (n * top) sum
+  summed h e w top g = let d = l.counts w top g in record { same = omega (arith, d.same, e w); few = omega (arith, d.few, mul-le-mul_left top h) }
 
--- ---- heads
+pub summing : {post : Symbol → ℕ → Type 0} (whole : (Symbol → ℕ) → ℕ) → Summed post whole whole 0 0
+summing whole = record { fits = omega arith; counts = λ w top g. record { same = omega arith; few = omega arith } }
 
-module _ (t weights : List ℕ) where
-  abbrev heads_left : ℕ → ℕ → ℕ
-  heads_left p n = heads_weight (weight_in weights) (heads_from t p n)
+-- a byte is at most 255
+pub byte-counted : {x r : ℕ} → r ≡ x → r < 256 → Counted x 255 r
+byte-counted e h = record { same = e; few = omega arith }
 
-  heads-turn : (p n : ℕ) → 0 < n → heads_left p n ≡ get_or weights (get_or t (p + 1) 0) 1 + heads_left (p + 22) (n - 1)
-  unfolding heads_weight head_at
-  heads-turn p n h = rw (heads-first t p n h)
+-- ---- records of one size
 
-  pub heads-begin : {p n : ℕ} → FewHeads t p n → Left 255 22 1020 (length t) (heads_left p n) (heads_left p n) 0 p n
-  heads-begin f = record { same = omega arith; few = omega (arith, f.few); near = f.lie }
+-- from the record k on
+unfoldable pub rows_rest : List ℕ → ℕ → ℕ → ℕ → ℕ → (Symbol → ℕ) → ℕ
+rows_rest t from size n k w = rows_weight w t (from + size * k) size (n - k)
 
-  pub heads-none : (p n : ℕ) → n ≤ 0 → heads_left p n ≡ 0
-  unfolding heads_weight heads_from
-  heads-none p zero h = refl
-  heads-none p (suc n) h = absurd (omega arith)
+module _ (t : List ℕ) (from size n : ℕ) where
+  rows-turn : (k : ℕ) → k < n → (w : Symbol → ℕ)
+      → rows_rest t from size n k w ≡ w (record { 0 = get_or t (from + size * k + 1) 0 }) + rows_rest t from size n (k + 1) w
+  unfolding rows_rest rows_weight
+  rows-turn k h w =
+      let p : from + size * (k + 1) ≡ from + size * k + size = omega arith in
+      let m : n - k ≡ suc (n - (k + 1)) = omega arith in
+      rw (m, p)
 
-  pub head-weighed : {far whole sum p left b r : ℕ} → Left 255 22 1020 far whole (heads_left p left) sum p left → 0 < left → b ≡ get_or t (p + 1) 0
-      → Counted (get_or weights b 1) 255 r → Left 255 22 1020 far whole (heads_left (p + 22) (left - 1)) (sum + r) (p + 22) (left - 1)
-  head-weighed {p = p} {left} l h e c =
-      let x : _ ≡ get_or weights (get_or t (p + 1) 0) 1 = c.same ∙ ap (λ (b : ℕ). get_or weights b 1) e in
-      record { same = omega (arith, l.same, heads-turn p left h, x); few = omega (arith, l.few, c.few); near = omega (arith, l.near) }
+  pub rows-none : (k : ℕ) → n ≤ k → (w : Symbol → ℕ) → rows_rest t from size n k w ≡ 0
+  unfolding rows_rest rows_weight
+  rows-none k h w = let z : n - k ≡ 0 = omega arith in rw z
+
+  pub rows-begin : {post : Symbol → ℕ → Type 0} → Summed post (λ w. rows_weight w t from size n) (rows_rest t from size n 0) 0 0
+  unfolding rows_rest
+  rows-begin {post} =
+      let m : n - 0 ≡ n = omega arith in
+      let p : from + size * 0 ≡ from = omega arith in
+      subst (λ (q : ℕ). Summed post (λ w. rows_weight w t from size n) (λ w. rows_weight w t q size (n - 0)) 0 0) (sym p)
+      (subst (λ (m : ℕ). Summed post (λ w. rows_weight w t from size n) (λ w. rows_weight w t from size m) 0 0) (sym m) (summing _))
+
+  pub row-added : {post : Symbol → ℕ → Type 0} {whole : (Symbol → ℕ) → ℕ} {k sum b r x : ℕ}
+      → Summed post whole (rows_rest t from size n k) sum k → k < n → b < 256 → b ≡ get_or t (from + size * k + 1) 0 → r < 256 → post (record { 0 = b }) r
+      → x ≡ r → Summed post whole (rows_rest t from size n (k + 1)) (sum + x) (k + 1)
+  row-added {k = k} l h bb e f p q =
+      rw q (one-more l bb f p (λ w. rows-turn k h w ∙ ap (λ (b : ℕ). w (record { 0 = b }) + rows_rest t from size n (k + 1) w) (sym e)))
+
+-- the heads of a rule
+pub heads-rows : (w : Symbol → ℕ) (t : List ℕ) (p n : ℕ) → heads_weight w (heads_from t p n) ≡ rows_weight w t p 22 n
+unfolding heads_weight heads_from head_at rows_weight
+heads-rows w t p zero = refl
+heads-rows w t p (suc n) = ap (λ (m : ℕ). w (symbol_at t (p + 1)) + m) (heads-rows w t (p + 22) n)
+
+pub heads-counted : (w : Symbol → ℕ) (t : List ℕ) (p n top : ℕ) {k m : ℕ} → n ≤ 4 → k ≡ n → Counted (rows_weight w t p 22 k) (k * top) m
+    → Counted (heads_weight w (heads_from t p n)) (4 * top) m
+heads-counted w t p n top h e c =
+    let d = (rw e at c) in record { same = d.same ∙ sym (heads-rows w t p n); few = omega (arith, d.few, mul-le-mul_left top h) }
 
 -- ---- body items
 
--- the same for `left` items from p on, each of which counts for at most `unit`
-pub record ItemsLeft (t : List ℕ) (unit top whole rest sum p left : ℕ) : Type 0 where
-  pub same : sum + rest ≡ whole
-  pub few : sum + unit * left ≤ top
-  pub lie : ItemsLie t p left
+-- n items from p on
+unfoldable pub items_rest : List ℕ → ℕ → ℕ → (Symbol → ℕ) → ℕ
+items_rest t p n w = body_weight w (items_from t p n)
 
-module _ {t : List ℕ} {unit top whole rest sum p left : ℕ} (l : ItemsLeft t unit top whole rest sum p left) (h : 0 < left) where
-  pub item-in : p < length t
-  item-in = (first-lies t p left l.lie h).0
+pub fact-turn : (t : List ℕ) (p n : ℕ) → 0 < n → is_fact t p ≡ true → (w : Symbol → ℕ)
+    → items_rest t p n w ≡ w (record { 0 = get_or t (p + 1) 0 }) + items_rest t (behind_item t p) (n - 1) w
+unfolding items_rest body_weight body_fact_at
+fact-turn t p n h e w = rw (items-first t p n h, item-fact t p e)
 
-  pub item-ends : behind_item t p ≤ length t
-  item-ends = (first-lies t p left l.lie h).1
+pub fail-turn : (t : List ℕ) (p n : ℕ) → 0 < n → is_fact t p ≡ false → (w : Symbol → ℕ) → items_rest t p n w ≡ items_rest t (behind_item t p) (n - 1) w
+unfolding items_rest body_weight
+fail-turn t p n h e w = rw (items-first t p n h, item-fail t p e)
 
-pub items-ended : {t : List ℕ} {unit top whole rest sum p left : ℕ} → ItemsLeft t unit top whole rest sum p left → rest ≡ 0 → Counted whole top sum
-items-ended l e = record { same = omega (arith, l.same); few = omega (arith, l.few) }
+pub items-none : (t : List ℕ) (p n : ℕ) → n ≤ 0 → (w : Symbol → ℕ) → items_rest t p n w ≡ 0
+unfolding items_rest body_weight items_from
+items-none t p zero h w = refl
+items-none t p (suc n) h w = absurd (omega arith)
 
-module _ (t weights : List ℕ) where
-  abbrev body_left : ℕ → ℕ → ℕ
-  body_left p n = body_weight (weight_in weights) (items_from t p n)
+module _ (t : List ℕ) (p n : ℕ) {post : Symbol → ℕ → Type 0} {whole : (Symbol → ℕ) → ℕ} {sum k next : ℕ}
+    (l : Summed post whole (items_rest t p (n - k)) sum k) (h : k < n) (b : next ≡ behind_item t p) {f : Bool} (q : f ≡ is_fact t p) where
+  later : n - (k + 1) ≡ n - k - 1
+  later = omega arith
 
-  pub body-none : (p n : ℕ) → n ≤ 0 → body_left p n ≡ 0
-  unfolding body_weight items_from
-  body-none p zero h = refl
-  body-none p (suc n) h = absurd (omega arith)
+  pub fact-added : f ≡ true → {s r x : ℕ} → s < 256 → s ≡ get_or t (p + 1) 0 → r < 256 → post (record { 0 = s }) r → x ≡ r → {sum' : ℕ} → sum' ≡ sum + x
+      → Summed post whole (items_rest t next (n - (k + 1))) sum' (k + 1)
+  fact-added d {s} ss e g a z y =
+      rw (y, z, b, later)
+      (one-more l ss g a
+      (λ w. fact-turn t p (n - k) (omega arith) (sym q ∙ d) w
+      ∙ ap (λ (s : ℕ). w (record { 0 = s }) + items_rest t (behind_item t p) (n - k - 1) w) (sym e)))
 
-  fact-turn : (p n : ℕ) → 0 < n → is_fact t p ≡ true → body_left p n ≡ get_or weights (get_or t (p + 1) 0) 1 + body_left (behind_item t p) (n - 1)
-  unfolding body_weight body_fact_at
-  fact-turn p n h e = rw (items-first t p n h, item-fact t p e)
+  pub fail-passed : f ≡ false → {sum' : ℕ} → sum' ≡ sum → Summed post whole (items_rest t next (n - (k + 1))) sum' (k + 1)
+  fail-passed d y = rw (y, b, later) (none-more l (λ w. fail-turn t p (n - k) (omega arith) (sym q ∙ d) w))
 
-  fail-turn : (p n : ℕ) → 0 < n → is_fact t p ≡ false → body_left p n ≡ body_left (behind_item t p) (n - 1)
-  unfolding body_weight
-  fail-turn p n h e = rw (items-first t p n h, item-fail t p e)
+pub items-begin : {post : Symbol → ℕ → Type 0} (t : List ℕ) (p n : ℕ) → Summed post (items_rest t p n) (items_rest t p (n - 0)) 0 0
+items-begin {post} t p n = let m : n - 0 ≡ n = omega arith in subst (λ (m : ℕ). Summed post (items_rest t p n) (items_rest t p m) 0 0) (sym m) (summing _)
 
-  pub body-begins : {p n : ℕ} → FewItems t p n → ItemsLeft t 255 1020 (body_left p n) (body_left p n) 0 p n
-  body-begins f = record { same = omega arith; few = omega (arith, f.few); lie = f.lie }
+pub lie-begin : (t : List ℕ) (p n : ℕ) → ItemsLie t p n → ItemsLie t p (n - 0)
+lie-begin t p n l = let m : n - 0 ≡ n = omega arith in subst (ItemsLie t p) (sym m) l
 
-  module _ {whole sum p left : ℕ} (l : ItemsLeft t 255 1020 whole (body_left p left) sum p left) (h : 0 < left) {next : ℕ} (b : next ≡ behind_item t p)
-      {f : Bool} (q : f ≡ is_fact t p) where
-    pub fact-weighed : {s r : ℕ} → f ≡ true → s ≡ get_or t (p + 1) 0 → Counted (get_or weights s 1) 255 r
-        → ItemsLeft t 255 1020 whole (body_left next (left - 1)) (sum + r) next (left - 1)
-    fact-weighed d e c =
-        let x : _ ≡ get_or weights (get_or t (p + 1) 0) 1 = c.same ∙ ap (λ (s : ℕ). get_or weights s 1) e in
-        let turn : body_left p left ≡ get_or weights (get_or t (p + 1) 0) 1 + body_left next (left - 1) = rw b (fact-turn p left h (sym q ∙ d)) in
-        record { same = omega (arith, l.same, turn, x); few = omega (arith, l.few, c.few); lie = rest-lies t p left l.lie h b }
-
-    pub fail-weighed : f ≡ false → ItemsLeft t 255 1020 whole (body_left next (left - 1)) sum next (left - 1)
-    fail-weighed d =
-        let turn : body_left p left ≡ body_left next (left - 1) = rw b (fail-turn p left h (sym q ∙ d)) in
-        record { same = omega (arith, l.same, turn); few = omega (arith, l.few); lie = rest-lies t p left l.lie h b }
+pub lie-later : (t : List ℕ) (p n k : ℕ) → ItemsLie t p (n - k) → k < n → {next : ℕ} → next ≡ behind_item t p → ItemsLie t next (n - (k + 1))
+lie-later t p n k l h {next} b =
+    let m : n - (k + 1) ≡ n - k - 1 = omega arith in
+    subst (ItemsLie t next) (sym m) (rest-lies t p (n - k) l (omega arith) b)

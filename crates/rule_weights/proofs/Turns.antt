@@ -1,9 +1,8 @@
 -- The rules of a good table, one after the other: what is known of each, and what a turn of the loop finds that looks for the first that does not lose
 -- weight.
-use Prim.Native.Nat.{ℕ, suc, ◌+◌, ◌-◌, ◌*◌, ◌<◌, ◌≤◌}
+use Prim.Native.Nat.{ℕ, zero, suc, ◌+◌, ◌-◌, ◌*◌, ◌<◌, ◌≤◌}
 use mathlib.Core.Path.{◌≡◌, refl, sym, ap, ◌∙◌}
-use mathlib.Core.Bool.{Bool, true, false, not, cond}
-use mathlib.Core.Option.{Option, none, some}
+use mathlib.Core.Bool.{Bool, true, false, cond}
 use mathlib.Core.List.{List, [], ◌∷◌}
 use native.Mathlib.Omega.{arith}
 use native.Mathlib.Numerals.{add-one}
@@ -11,6 +10,7 @@ use lib.Dec.{eqb, ltb}
 use lib.ListN.{length, get_or, drop, drop_of_length-le}
 use lib.Seq.{drop-cons}
 use borrow.Author.Tests.{eq-eqb, ne_eqb}
+use Rattle.std.specs.Prelude.{Option, Some, None, MatchOption, IsSomeAnd}
 use Rattle.model.specs.declared.Symbol.{Symbol}
 use Rattle.model.specs.declared.RuleNumber.{RuleNumber}
 use Rattle.model.specs.declared.Reading.{Reading}
@@ -19,14 +19,11 @@ use Rattle.model.specs.Limits.{most_rules}
 use Rattle.model.specs.Reading.{no_shape, read_of}
 use Rattle.model.specs.Table.{Rule, heads_start, heads_from, items_start, items_from, no_rule, table_of, rule_of, rule_at}
 use Rattle.model.specs.Weights.{body_weight, heads_weight, first_heavy}
-use Rattle.model.proofs.Lists.{not-true}
 use Rattle.model.proofs.Good.{GoodRule, GoodTable, good-table}
 use Rattle.model.proofs.Decoded.{rule-body, rule-removed, rules-length, rule-at}
 use Rattle.records.proofs.PartsLie.{items-lie}
-use Rattle.rule_weights.specs.declared.FirstRule.{FirstRule}
-use Rattle.rule_weights.specs.declared.FirstRule.TheVariants.{At, Nothing}
-use Rattle.rule_weights.specs.declared.RuleWeights.{RuleWeights}
-use Rattle.rule_weights.specs.Views.{Counted, Known, first_rule, FewItems, Lies, Weighs, loses_weight}
+use Rattle.rule_weights.specs.declared.rules.RuleWeights.{RuleWeights}
+use Rattle.rule_weights.specs.Views.{Counted, Known, FewItems, Lies, Weighs, loses_weight}
 
 -- ---- what is known of a good table
 
@@ -83,64 +80,43 @@ module _ {t : List ℕ} {r : Reading} (k : Known t r) where
 -- ---- 42
 
 heavy-cons : (w : Symbol → ℕ) (k : ℕ) (x : Rule) (rs : List Rule) (b : Bool) → loses_weight w x ≡ b
-    → first_heavy w k (x ∷ rs) ≡ cond b (first_heavy w (suc k) rs) (some k)
+    → first_heavy w k (x ∷ rs) ≡ cond b (first_heavy w (suc k) rs) (Some (record { 0 = k }))
 unfolding loses_weight first_heavy
 heavy-cons w k x rs b e = rw (e, first_heavy) (go b)
   where
-    go : (b : Bool) → ◌≡◌ {A = Option ℕ} (elim b [ true ↦ first_heavy w (suc k) rs | false ↦ some k ]) (cond b (first_heavy w (suc k) rs) (some k))
+    go : (b : Bool) → ◌≡◌ {A = Option RuleNumber} (elim b [ true ↦ first_heavy w (suc k) rs | false ↦ Some (record { 0 = k }) ])
+        (cond b (first_heavy w (suc k) rs) (Some (record { 0 = k })))
     go true = refl
     go false = refl
 
--- the last `left` rules of n
-abbrev heavy_left : (Symbol → ℕ) → List ℕ → ℕ → ℕ → Option ℕ
-heavy_left w t n left = first_heavy w (n - left) (drop (n - left) (table_of t).rules)
+module _ {t : List ℕ} {r : Reading} (k : Known t r) (w : Symbol → ℕ) where
+  -- whether the rule i does
+  abbrev pub Loses : ℕ → Bool → Type 0
+  Loses i b = loses_weight w (rule_of t (get_or r.shapes i no_shape)) ≡ b
 
--- these answer for all n rules of a reading
-pub record HeavyLeft (w : Symbol → ℕ) (t : List ℕ) (r : Reading) (n left : ℕ) : Type 0 where
-  pub same : first_heavy w 0 (table_of t).rules ≡ heavy_left w t n left
-  pub few : left ≤ n
-  pub all : n ≡ r.rules
-  pub few_rules : n ≤ most_rules
-  pub known : Known t r
+  heavy-turn : (i : ℕ) → i < r.rules → (b : Bool) → Loses i b
+      → first_heavy w i (drop i (table_of t).rules) ≡ cond b (first_heavy w (suc i) (drop (suc i) (table_of t).rules)) (Some (record { 0 = i }))
+  heavy-turn i h b e = rw (first k {i = i} h, add-one i) (heavy-cons w i _ _ b e)
 
-pub heavy-begins : {w : Symbol → ℕ} {t : List ℕ} {r : Reading} → Known t r → HeavyLeft w t r r.rules r.rules
-heavy-begins {r = r} k =
-    let e : r.rules - r.rules ≡ 0 = omega arith in record { same = rw e; few = omega arith; all = refl; few_rules = few-rules k; known = k }
+  -- the rules from i on answer for all, where those before lose weight
+  heavy-from : (i : ℕ) → i ≤ r.rules → ((j : ℕ) → j < i → Loses j true) → first_heavy w 0 (table_of t).rules ≡ first_heavy w i (drop i (table_of t).rules)
+  heavy-from zero h e = refl
+  heavy-from (suc i) h e = heavy-from i (omega arith) (λ j l. e j (omega arith)) ∙ heavy-turn i (omega arith) true (e i (omega arith))
 
-module _ {w : Symbol → ℕ} {t : List ℕ} {r : Reading} {n left : ℕ} (l : HeavyLeft w t r n left) where
-  module _ (h : 0 < left) where
-    inside : n - left < r.rules
-    inside = omega (arith, l.few, l.all)
+  -- what a search over the numbers of the rules finds
+  abbrev pub FirstHeavy : Option ℕ → Type 0
+  FirstHeavy o =
+      MatchOption o ((i : ℕ) → 0 ≤ i → i < r.rules → Loses i true)
+      (λ n. (0 ≤ n) × (n < r.rules) × Loses n false × ((i : ℕ) → 0 ≤ i → i < n → Loses i true))
 
-    module _ {b : Bool} (e : b ≡ loses_weight w (rule_of t (get_or r.shapes (n - left) no_shape))) where
-      heavy-turn : (d : Bool) → b ≡ d → heavy_left w t n left ≡ cond d (heavy_left w t n (left - 1)) (some (n - left))
-      heavy-turn d q =
-          let m : n - (left - 1) ≡ suc (n - left) = omega (arith, l.few) in
-          rw (first l.known {i = n - left} inside, m, add-one (n - left)) (heavy-cons w (n - left) _ _ d (sym e ∙ q))
-
-      pub heavy-here : not b ≡ true → some (n - left) ≡ first_heavy w 0 (table_of t).rules
-      heavy-here q = sym (l.same ∙ heavy-turn false (not-true b q))
-
-      pub heavy-later : not b ≡ false → HeavyLeft w t r n (left - 1)
-      heavy-later q =
-          record { same = l.same ∙ heavy-turn true (not-false b q); few = omega (arith, l.few); all = l.all; few_rules = l.few_rules; known = l.known }
-        where
-          not-false : (b : Bool) → not b ≡ false → b ≡ true
-          not-false true q = refl
-          not-false false q = sym q
-
-  pub heavy-never : left ≤ 0 → none ≡ first_heavy w 0 (table_of t).rules
+  pub heavy-found : (o : Option ℕ) → FirstHeavy o → {P : ℕ → RuleNumber → Type 0} (m : Option RuleNumber) → MatchOption o (m ≡ None) (λ n. IsSomeAnd m (P n))
+      → ((n : ℕ) (x : RuleNumber) → P n x → x ≡ record { 0 = n }) → m ≡ first_heavy w 0 (table_of t).rules
   unfolding first_heavy
-  heavy-never h = sym (l.same ∙ rw (last l.known {i = n - left} (omega (arith, l.all))))
-
--- what the loop found
-pub heavy-at : {r : FirstRule} (o : Option ℕ) {n : RuleNumber} → first_rule r ≡ o → r ≡ At n → o ≡ some n.0
-unfolding first_rule
-heavy-at o e d = sym e ∙ ap first_rule d
-
-pub heavy-none : {r : FirstRule} (o : Option ℕ) → first_rule r ≡ o → r ≡ Nothing → o ≡ none
-unfolding first_rule
-heavy-none o e d = sym e ∙ ap first_rule d
+  heavy-found None f m e p =
+      e ∙ sym (heavy-from r.rules (omega arith) (λ j l. f j (omega arith) l) ∙ ap (first_heavy w r.rules) (last k {i = r.rules} (omega arith)))
+  heavy-found (Some n) f None e p = absurd e
+  heavy-found (Some n) f (Some x) e p =
+      ap Some (p n x e) ∙ sym (heavy-from n (omega (arith, f.1)) (λ j l. f.3 j (omega arith) l) ∙ heavy-turn n f.1 false f.2)
 
 -- ---- a rule by where it stands
 
@@ -148,9 +124,12 @@ module _ {t : List ℕ} {r : RuleShape} (l : Lies t r) {p : ℕ} where
   pub body-lies : p ≡ items_start r → FewItems t p r.items
   body-lies e = rw e l.body
 
-  pub rule-weighs : (w : Symbol → ℕ) {q m n : ℕ} → p ≡ heads_start r + 22 * r.kept → Counted (heads_weight w (heads_from t p (r.heads - r.kept))) 1020 m
+  pub rule-weighs : (w : Symbol → ℕ) {k q m n : ℕ} → k ≡ r.kept → p ≡ heads_start r + 22 * k
+      → Counted (heads_weight w (heads_from t p (r.heads - r.kept))) 1020 m
       → q ≡ items_start r → Counted (body_weight w (items_from t q r.items)) 1020 n → Weighs w (rule_of t r) (record { removed = m; body = n })
-  rule-weighs w e a d b = record { removed = rw (rule-removed t r, ← e) a; body = rw (rule-body t r, ← d) b }
+  rule-weighs w z e a d b =
+      let f : p ≡ heads_start r + 22 * r.kept = e ∙ ap (λ (k : ℕ). heads_start r + 22 * k) z in
+      record { removed = rw (rule-removed t r, ← f) a; body = rw (rule-body t r, ← d) b }
 
 pub rule-loses : (w : Symbol → ℕ) (x : Rule) {sides : RuleWeights} → Weighs w x sides → ltb sides.body sides.removed ≡ loses_weight w x
 unfolding loses_weight

@@ -1,28 +1,29 @@
-// What the body items of a rule weigh, read where they lie in a table's bytes.
+// The body items of a rule, read where they lie in a table's bytes.
+ghost use Rattle.std.specs.Prelude.{ℕ, ◌*◌};
+ghost use Rattle.model.specs.declared.Symbol.{Symbol};
 ghost use Rattle.model.specs.Table.{items_from};
-ghost use Rattle.model.specs.Weights.{weight_in, body_weight};
-ghost use Rattle.rule_weights.specs.Views.{Counted, FewItems};
+ghost use Rattle.model.specs.Weights.{body_weight};
+ghost use Rattle.rule_weights.specs.Views.{Counted, FewItems, Gives};
 
 use model::Symbol;
 use records::geometry;
 use records::geometry::FactBytes;
 
-// What so many items from `from` on weigh: "fail weighs nothing".
-pub fn body_weight(table: &[u8], weights: &[u8], from: usize, items: u8) -> u32
-    requires { FewItems table.now from items }
-    ensures { Counted (body_weight (weight_in weights.now) (items_from table.now from items)) 1020 result }
+// What `of` gives for the symbols of the facts among so many items from `from` on, summed: "fail weighs nothing".
+pub fn sum_over<F: Fn(Symbol) -> u8>(table: &[u8], from: usize, items: u8, of: F) -> u32
+    requires lie { FewItems table.now from items }
+    requires can { F.IsAlwaysCallable of }
+    ensures { (w : Symbol → ℕ) (top : ℕ) → Gives (λ s r. F.post of s r) w top
+        → Counted (body_weight w (items_from table.now from items)) (4 * top) result }
 {
-    let mut sum: u32 = 0;
+    let mut sum = 0;
     let mut p = from;
-    let mut left = items;
-    while 0 < left {
-        let here = p;
-        left -= 1;
-        p = geometry::behind_item(table, here);
-        if geometry::is_fact(table, here) {
-            let symbol = Symbol(wire::byte(table, here + FactBytes::SYMBOL));
-            sum += crate::weight_of(weights, symbol);
+    for _ in 0..items {
+        if geometry::is_fact(table, p) {
+            let symbol = Symbol(wire::byte(table, p + FactBytes::SYMBOL));
+            sum += u32::from(of(symbol));
         }
+        p = geometry::behind_item(table, p);
     }
     sum
 }

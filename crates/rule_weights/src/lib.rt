@@ -2,35 +2,18 @@
 #![tactic(auto)]
 
 pub mod bodies;
-pub mod heads;
+pub mod good;
+pub mod rows;
 pub mod rules;
 
+ghost use Rattle.std.specs.Prelude.{◌≡◌};
 ghost use Rattle.model.specs.Weights.{weight_in};
-ghost use Rattle.rule_weights.specs.Views.{Counted};
 
-use model::{RuleNumber, Symbol};
-
-// What a search for the first rule of its sort finds.
-#[derive(Clone, Copy)]
-pub enum FirstRule {
-    At(RuleNumber),
-    Nothing,
-}
-
-// What the removed heads of a rule weigh, and what its body weighs.
-#[derive(Clone, Copy)]
-pub struct RuleWeights {
-    pub removed: u32,
-    pub body: u32,
-}
+use model::Symbol;
 
 // What a symbol weighs: a symbol of a good table or goal has a weight.
-pub fn weight_of(weights: &[u8], symbol: Symbol) -> u32
-    ensures { Counted (weight_in weights.now symbol) 255 result }
+pub fn weight_of(weights: &[u8], symbol: Symbol) -> u8
+    ensures { result ≡ weight_in weights.now symbol }
 {
-    let s = symbol.0 as usize;
-    if s < weights.len() {
-        return weights[s] as u32;
-    }
-    1
+    weights.get(usize::from(symbol.0)).copied().unwrap_or(1)
 }

@@ -1,7 +1,7 @@
--- What holds of writing the parts of a rule: each part, the lists of them, the rule; that the tokens of a tree print to these texts; and how long they are.
+-- What holds of writing a rule.
 pub mod Bracketed
-pub mod Pieces
 pub mod Listed
+pub mod Pieces
 pub mod Rules
 pub mod Tokens
 pub mod Short

@@ -1,5 +1,5 @@
 -- A rule, as it is written: which sides it has, whether it has comparisons, and whether its body is empty.
-use Prim.Native.Nat.{ℕ, ◌+◌, ◌-◌, ◌*◌, ◌≤◌}
+use Prim.Native.Nat.{ℕ, ◌+◌, ◌-◌, ◌*◌, ◌≤◌, ◌<◌}
 use mathlib.Core.Path.{◌≡◌, refl, ap, ◌∙◌}
 use mathlib.Core.List.{List, [], ◌∷◌, ◌++◌, map}
 use native.Mathlib.Omega.{arith}
@@ -9,13 +9,13 @@ use Rattle.model.specs.Table.{heads_start, guards_start, items_start, rule_of}
 use Rattle.model.proofs.Decoded.{heads-length, guards-length, items-length}
 use Rattle.grammar.specs.Tree.{HeadTree, GuardTree, ItemTree, RuleTree}
 use Rattle.grammar.specs.Layout.{head_tree, guard_tree, item_tree, rule_tree}
-use Rattle.records.specs.Geometry.{ItemsLie}
 use Rattle.text.specs.Token.{backslash, simplifies, propagates, bar, true_word}
 use Rattle.text.specs.Printed.{mark_text}
+use Rattle.text_writing.specs.declared.Page.{Page}
 use Rattle.text_writing.specs.Written.{Put}
 use Rattle.text_writing.specs.Parts.{list_text, head_text, guard_text, item_text, heads_text, guards_text, body_text, rule_text}
 use Rattle.text_writing.specs.Parts.{head_texts, guard_texts, item_texts}
-use Rattle.text_writing.specs.Parts.{GuardsLie, Printable}
+use Rattle.text_writing.specs.Parts.{Printable}
 use Rattle.text_writing.proofs.Writes.{put-as, put-both, put-none}
 
 -- ---- the texts, by how many parts there are
@@ -24,6 +24,10 @@ only-removed : (ks rs : List HeadTree) → length ks ≡ 0 → list_text (map he
 unfolding heads_text
 only-removed [] rs e = refl
 only-removed (k ∷ ks) rs e = absurd (omega arith)
+
+no-texts : (hs : List HeadTree) → length hs ≡ 0 → map head_text hs ≡ []
+no-texts [] e = refl
+no-texts (h ∷ hs) e = absurd (omega arith)
 
 only-kept : (ks rs : List HeadTree) → 1 ≤ length ks → length rs ≡ 0 → list_text (map head_text ks) ++ mark_text propagates ≡ heads_text ks rs
 unfolding heads_text
@@ -98,68 +102,58 @@ module _ (t : List ℕ) (r : RuleShape) where
 
   -- ---- the sides
 
-  module _ (g : Printable t r) {p q : ℕ} (ep : p ≡ heads_start r + 22 * 0) (eq : q ≡ heads_start r + 22 * r.kept)
-      {s : List ℕ} {at : ℕ} {u : List ℕ} {a : ℕ} where
-    pub simplified : {v : List ℕ} {end : ℕ} → r.kept ≡ 0 → Put s at (list_text (head_texts t q (r.heads - r.kept))) (66 * (r.heads - r.kept)) u a
-        → Put u a (32 ∷ 60 ∷ 61 ∷ 62 ∷ 32 ∷ []) 5 v end → Put s at (heads_text tree.kept tree.removed) 272 v end
+  module _ (g : Printable t r) {at : ℕ} (ek : at ≡ heads_start r + 22 * 0) {p q : Page} (k : Put p (list_text (head_texts t at r.kept)) (66 * r.kept) q) where
+    pub propagated : r.heads - r.kept ≡ 0 → {u : Page} → Put q (32 ∷ 61 ∷ 61 ∷ 62 ∷ 32 ∷ []) 5 u → Put p (heads_text tree.kept tree.removed) 272 u
     unfolding mark_text
-    simplified e x y =
-        put-both x y (heads_text tree.kept tree.removed) 272
-        (rw (removed-texts eq) (only-removed tree.kept tree.removed (kept-long ∙ e))) (omega (arith, g.few_heads))
+    propagated z x =
+        put-both k x (heads_text tree.kept tree.removed) 272
+        (rw (kept-texts ek) (only-kept tree.kept tree.removed (omega (arith, kept-long, g.some_head, g.kept_few)) (removed-long ∙ z)))
+        (omega (arith, g.few_heads, g.kept_few))
 
-    pub propagated : {v : List ℕ} {end : ℕ} → (r.kept ≡ 0 → ⊥) → r.heads - r.kept ≡ 0 → Put s at (list_text (head_texts t p r.kept)) (66 * r.kept) u a
-        → Put u a (32 ∷ 61 ∷ 61 ∷ 62 ∷ 32 ∷ []) 5 v end → Put s at (heads_text tree.kept tree.removed) 272 v end
-    unfolding mark_text
-    propagated d e x y =
-        put-both x y (heads_text tree.kept tree.removed) 272
-        (rw (kept-texts ep) (only-kept tree.kept tree.removed (omega (arith, kept-long, d)) (removed-long ∙ e))) (omega (arith, g.few_heads, g.kept_few))
+    module _ {rest : ℕ} (er : rest ≡ heads_start r + 22 * r.kept) {v w : Page} (m : Put v (32 ∷ 60 ∷ 61 ∷ 62 ∷ 32 ∷ []) 5 w) where
+      pub simplified : r.kept ≤ 0 → Put q (list_text (head_texts t rest (r.heads - r.kept))) (66 * (r.heads - r.kept)) v
+          → Put p (heads_text tree.kept tree.removed) 272 w
+      unfolding mark_text list_text
+      simplified z x =
+          let none : map head_text tree.kept ≡ [] = no-texts tree.kept (omega (arith, kept-long)) in
+          put-both k (put-both x m _ (66 * (r.heads - r.kept) + 5) refl (omega arith)) (heads_text tree.kept tree.removed) 272
+          (rw (kept-texts ek, removed-texts er, none) (only-removed tree.kept tree.removed (omega (arith, kept-long)))) (omega (arith, g.few_heads))
 
-    pub simpagated : {v w z : List ℕ} {b c end : ℕ} → (r.kept ≡ 0 → ⊥) → (r.heads - r.kept ≡ 0 → ⊥)
-        → Put s at (list_text (head_texts t p r.kept)) (66 * r.kept) u a → Put u a (32 ∷ 92 ∷ 32 ∷ []) 3 v b
-        → Put v b (list_text (head_texts t q (r.heads - r.kept))) (66 * (r.heads - r.kept)) w c → Put w c (32 ∷ 60 ∷ 61 ∷ 62 ∷ 32 ∷ []) 5 z end
-        → Put s at (heads_text tree.kept tree.removed) 272 z end
-    unfolding mark_text
-    simpagated d e x y o l =
-        let removed = 66 * (r.heads - r.kept) in
-        put-both x (put-both y (put-both o l _ (removed + 5) refl (omega arith)) _ (removed + 8) refl (omega arith))
-        (heads_text tree.kept tree.removed) 272
-        (rw (kept-texts ep, removed-texts eq)
-        (both-sides tree.kept tree.removed (omega (arith, kept-long, d)) (omega (arith, removed-long, e)))) (omega (arith, g.few_heads, g.kept_few))
+      pub simpagated : {u : Page} → 0 < r.kept → (r.heads - r.kept ≡ 0 → ⊥) → Put q (32 ∷ 92 ∷ 32 ∷ []) 3 u
+          → Put u (list_text (head_texts t rest (r.heads - r.kept))) (66 * (r.heads - r.kept)) v → Put p (heads_text tree.kept tree.removed) 272 w
+      unfolding mark_text
+      simpagated d e y x =
+          let removed = 66 * (r.heads - r.kept) in
+          put-both k (put-both y (put-both x m _ (removed + 5) refl (omega arith)) _ (removed + 8) refl (omega arith))
+          (heads_text tree.kept tree.removed) 272
+          (rw (kept-texts ek, removed-texts er)
+          (both-sides tree.kept tree.removed (omega (arith, kept-long, d)) (omega (arith, removed-long, e)))) (omega (arith, g.few_heads, g.kept_few))
 
   -- ---- comparisons and the body
 
-  module _ (g : Printable t r) {s : List ℕ} {at : ℕ} where
-    pub guards-none : r.guards ≡ 0 → Put s at (guards_text tree.guards) 227 s at
-    guards-none e = put-none s at 227 (no-guard tree.guards (guards-long ∙ e))
+  module _ (g : Printable t r) {p q : Page} where
+    pub guards-none : r.guards ≤ 0 → q ≡ p → Put p (guards_text tree.guards) 227 q
+    guards-none z e = rw e (put-none p 227 (no-guard tree.guards (omega (arith, guards-long))))
 
-    pub guards-some : {p : ℕ} → p ≡ guards_start r → {u v : List ℕ} {a end : ℕ} → (r.guards ≡ 0 → ⊥)
-        → Put s at (list_text (guard_texts t p r.guards)) (56 * r.guards) u a → Put u a (32 ∷ 124 ∷ 32 ∷ []) 3 v end
-        → Put s at (guards_text tree.guards) 227 v end
+    pub guards-some : {at : ℕ} → at ≡ guards_start r → 0 < r.guards → Put p (list_text (guard_texts t at r.guards)) (56 * r.guards) q
+        → {u : Page} → Put q (32 ∷ 124 ∷ 32 ∷ []) 3 u → Put p (guards_text tree.guards) 227 u
     unfolding mark_text
     guards-some e d x y =
         put-both x y (guards_text tree.guards) 227
         (rw (guards-texts e) (some-guards tree.guards (omega (arith, guards-long, d)))) (omega (arith, g.few_guards))
 
-    pub body-true : {u : List ℕ} {end : ℕ} → r.items ≡ 0 → Put s at (116 ∷ 114 ∷ 117 ∷ 101 ∷ []) 4 u end → Put s at (body_text tree.items) 488 u end
+    pub body-true : r.items ≡ 0 → Put p (116 ∷ 114 ∷ 117 ∷ 101 ∷ []) 4 q → Put p (body_text tree.items) 488 q
     unfolding mark_text
     body-true e x = put-as x (no-item tree.items (items-long ∙ e)) (omega arith)
 
-    pub body-some : {p : ℕ} → p ≡ items_start r → {u : List ℕ} {end : ℕ} → (r.items ≡ 0 → ⊥)
-        → Put s at (list_text (item_texts t p r.items)) (122 * r.items) u end
-        → Put s at (body_text tree.items) 488 u end
+    pub body-some : {at : ℕ} → at ≡ items_start r → (r.items ≡ 0 → ⊥) → Put p (list_text (item_texts t at r.items)) (122 * r.items) q
+        → Put p (body_text tree.items) 488 q
     body-some e d x =
         put-as x (ap list_text (items-texts e) ∙ some-items tree.items (omega (arith, items-long, d))) (omega (arith, g.few_items))
 
-  pub guards-lie : Printable t r → {p : ℕ} → p ≡ guards_start r → GuardsLie t p r.guards
-  guards-lie g e = rw e g.guards
-
-  pub items-lie : Printable t r → {p : ℕ} → p ≡ items_start r → ItemsLie t p r.items
-  items-lie g e = rw e g.items
-
   -- ---- the rule
 
-  pub rule-put : {s : List ℕ} {at : ℕ} {u v w z : List ℕ} {a b c end : ℕ} → Put s at (heads_text tree.kept tree.removed) 272 u a
-      → Put u a (guards_text tree.guards) 227 v b → Put v b (body_text tree.items) 488 w c → Put w c (46 ∷ 10 ∷ []) 2 z end
-      → Put s at (rule_text tree) 989 z end
+  pub rule-put : {p q u v w : Page} → Put p (heads_text tree.kept tree.removed) 272 q → Put q (guards_text tree.guards) 227 u
+      → Put u (body_text tree.items) 488 v → Put v (46 ∷ 10 ∷ []) 2 w → Put p (rule_text tree) 989 w
   unfolding rule_text mark_text
   rule-put x y o l = put-both x (put-both y (put-both o l _ 490 refl (omega arith)) _ 717 refl (omega arith)) (rule_text tree) 989 refl (omega arith)

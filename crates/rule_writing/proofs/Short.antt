@@ -6,7 +6,7 @@ use native.Mathlib.Omega.{arith}
 use native.Mathlib.Nat.{mul-suc}
 use lib.IntN.{pos, negsuc}
 use lib.ListN.{length, length-append, length-map}
-use Rattle.model.specs.declared.Verdict.TheVariants.{Good}
+use Rattle.std.specs.Prelude.{Ok}
 use Rattle.model.specs.Reading.{read_of}
 use Rattle.model.proofs.Every.{every}
 use Rattle.model.proofs.Lists.{every-get_d}
@@ -240,5 +240,5 @@ printed-short w f =
       f.few_rules,
     )
 
-pub good-table-short : (t : List ℕ) → AreBytes t → (read_of t).verdict ≡ Good → length (printed (tree_of t)) ≤ longest_text
+pub good-table-short : (t : List ℕ) → AreBytes t → (read_of t).verdict ≡ Ok tt → length (printed (tree_of t)) ≤ longest_text
 good-table-short t u e = printed-short (tree_of t) (good-encodes t u e).formed

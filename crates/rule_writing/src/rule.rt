@@ -6,67 +6,70 @@ ghost use Rattle.text_writing.specs.Written.{longest_text, Put};
 ghost use Rattle.text_writing.specs.Parts.{Printable, heads_text, guards_text, body_text, rule_text};
 
 use crate::lists;
+use crate::parts::{Comparison, Head, Item};
 use model::RuleShape;
 use records::geometry;
-use text_writing::writing;
+use text_writing::Page;
 
 // heads "==>" | heads "<=>" | heads "\" heads "<=>": the kept heads, then the removed ones.
-fn put_sides(table: &[u8], shape: RuleShape, text: &mut [u8], at: usize) -> usize
-    requires { Printable table.now shape × (at + 272 ≤ longest_text) }
-    ensures { Put text.old at
-        (heads_text (rule_tree (rule_of table.now shape)).kept (rule_tree (rule_of table.now shape)).removed) 272 text.new result }
+fn put_sides(table: &[u8], shape: RuleShape, page: &mut Page)
+    requires rule { Printable table.now shape }
+    requires room { page.old.at + 272 ≤ longest_text }
+    ensures { Put page.old
+        (heads_text (rule_tree (rule_of table.now shape)).kept (rule_tree (rule_of table.now shape)).removed) 272 page.new }
 {
-    let kept = shape.kept;
-    let removed = shape.heads - kept;
-    let from = geometry::head_start(shape, 0);
-    let middle = geometry::head_start(shape, kept as usize);
-    if kept == 0 {
-        let end = lists::put_heads(table, middle, removed, text, at);
-        return writing::put_bytes(text, end, b" <=> ");
-    }
-    let behind = lists::put_heads(table, from, kept, text, at);
+    let removed = shape.heads - shape.kept;
+    lists::put_list::<Head>(table, geometry::head_start(shape, 0), shape.kept, page);
     if removed == 0 {
-        return writing::put_bytes(text, behind, b" ==> ");
+        page.put_bytes(b" ==> ");
+        return;
     }
-    let next = writing::put_bytes(text, behind, b" \\ ");
-    let end = lists::put_heads(table, middle, removed, text, next);
-    writing::put_bytes(text, end, b" <=> ")
+    if 0 < shape.kept {
+        page.put_bytes(b" \\ ");
+    }
+    lists::put_list::<Head>(
+        table,
+        geometry::head_start(shape, shape.kept as usize),
+        removed,
+        page,
+    );
+    page.put_bytes(b" <=> ");
 }
 
 // [ comparison { "," comparison } "|" ]
-fn put_conditions(table: &[u8], shape: RuleShape, text: &mut [u8], at: usize) -> usize
-    requires { Printable table.now shape × (at + 227 ≤ longest_text) }
-    ensures { Put text.old at (guards_text (rule_tree (rule_of table.now shape)).guards) 227 text.new result }
+fn put_conditions(table: &[u8], shape: RuleShape, page: &mut Page)
+    requires rule { Printable table.now shape }
+    requires room { page.old.at + 227 ≤ longest_text }
+    ensures { Put page.old (guards_text (rule_tree (rule_of table.now shape)).guards) 227 page.new }
 {
-    let guards = shape.guards;
-    if guards == 0 {
-        return at;
+    if 0 < shape.guards {
+        let from = geometry::guards_start(shape.start, shape.heads);
+        lists::put_list::<Comparison>(table, from, shape.guards, page);
+        page.put_bytes(b" | ");
     }
-    let from = geometry::guards_start(shape.start, shape.heads);
-    let end = lists::put_guards(table, from, guards, text, at);
-    writing::put_bytes(text, end, b" | ")
 }
 
 // "body = "true" | item { "," item }"
-fn put_body(table: &[u8], shape: RuleShape, text: &mut [u8], at: usize) -> usize
-    requires { Printable table.now shape × (at + 488 ≤ longest_text) }
-    ensures { Put text.old at (body_text (rule_tree (rule_of table.now shape)).items) 488 text.new result }
+fn put_body(table: &[u8], shape: RuleShape, page: &mut Page)
+    requires rule { Printable table.now shape }
+    requires room { page.old.at + 488 ≤ longest_text }
+    ensures { Put page.old (body_text (rule_tree (rule_of table.now shape)).items) 488 page.new }
 {
-    let items = shape.items;
-    if items == 0 {
-        return writing::put_bytes(text, at, b"true");
+    if shape.items == 0 {
+        page.put_bytes(b"true");
+    } else {
+        lists::put_list::<Item>(table, geometry::items_start(shape), shape.items, page);
     }
-    let from = geometry::items_start(shape);
-    lists::put_items(table, from, items, text, at)
 }
 
 // A rule a line.
-pub fn put_rule(table: &[u8], shape: RuleShape, text: &mut [u8], at: usize) -> usize
-    requires { Printable table.now shape × (at + 989 ≤ longest_text) }
-    ensures { Put text.old at (rule_text (rule_tree (rule_of table.now shape))) 989 text.new result }
+pub fn put_rule(table: &[u8], shape: RuleShape, page: &mut Page)
+    requires rule { Printable table.now shape }
+    requires room { page.old.at + 989 ≤ longest_text }
+    ensures { Put page.old (rule_text (rule_tree (rule_of table.now shape))) 989 page.new }
 {
-    let a = put_sides(table, shape, text, at);
-    let b = put_conditions(table, shape, text, a);
-    let c = put_body(table, shape, text, b);
-    writing::put_bytes(text, c, b".\n")
+    put_sides(table, shape, page);
+    put_conditions(table, shape, page);
+    put_body(table, shape, page);
+    page.put_bytes(b".\n");
 }

@@ -1,3 +1,4 @@
+pub mod KindBytes
 pub mod Cases
 pub mod Turns
 pub mod Never

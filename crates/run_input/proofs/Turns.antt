@@ -1,13 +1,18 @@
 -- One turn of `table_end`, as the definition has it. The loop's invariant: what is left of the records answers for the whole input.
 -- Assumes nothing.
 use Prim.Native.Nat.{ℕ, zero, suc, ◌+◌, ◌-◌, ◌<◌, ◌≤◌}
-use mathlib.Core.Path.{◌≡◌, refl, sym, ◌∙◌}
+use mathlib.Core.Path.{◌≡◌, refl, sym, ap, ◌∙◌}
 use mathlib.Core.Logic.{◌≢◌}
 use mathlib.Core.List.{List}
 use native.Mathlib.Omega.{arith}
 use lib.ListN.{length, get_or}
 use borrow.Author.Tests.{eq-eqb, ne_eqb, le-leb, lt-leb}
-use Rattle.run_input.specs.Input.{size_at, end_at, end_from, table_end, EndsAt}
+use Rattle.std.specs.Prelude.{Option, Some, None}
+use Rattle.model.specs.declared.Kind.{Kind}
+use Rattle.model.specs.declared.Kind.TheVariants.{EndOfTable}
+use Rattle.model.specs.Records.{kind_of, size_of}
+use Rattle.run_input.specs.Input.{known_size, size_at, end_at, end_from, table_end, EndsAt}
+use Rattle.run_input.proofs.KindBytes.{kind-end, end-kind, some-size}
 
 pub record Left (t : List ℕ) (p n : ℕ) : Type 0 where
   pub same : table_end t ≡ end_from n t p
@@ -25,11 +30,6 @@ turn : (n : ℕ) (t : List ℕ) (p : ℕ) → 0 < n → end_from n t p ≡ end_a
 unfolding end_from
 turn zero t p h = absurd (omega arith)
 turn (suc m) t p h = let k : suc m - 1 ≡ m = omega arith in rw k
-
-pub out : {t : List ℕ} {p n : ℕ} → Left t p n → n ≤ 0 → EndsAt t (length t)
-unfolding end_from
-out {n = zero} l h = record { is = sym l.same; within = omega arith }
-out {n = suc m} l h = absurd (omega arith)
 
 module _ {t : List ℕ} {p n : ℕ} (l : Left t p n) where
   pub ended : length t ≤ p → EndsAt t (length t)
@@ -61,8 +61,43 @@ module _ {t : List ℕ} {p n : ℕ} (l : Left t p n) where
             let k : size_at t p ≢ 0 = λ (e : size_at t p ≡ 0). known (size ∙ e) in
             rw size (go ∙ rw (lt-leb (length t) p inside, ne_eqb (get_or t p 0) 8 other, ne_eqb (size_at t p) 0 k))
 
-        pub cut : length t - p ≤ s → EndsAt t (length t)
-        cut g = record { is = sym (behind ∙ past (n - 1) t _ (omega arith)); within = omega arith }
-
         pub next : Left t (p + s) (n - 1)
         next = record { same = behind }
+
+-- ---- the loop
+
+-- what is left of the records from p on, as many as there can be
+pub record Going (t : List ℕ) (p : ℕ) : Type 0 where
+  pub fuel : ℕ
+  pub left : Left t p fuel
+  pub enough : length t ≤ p + fuel
+
+pub begins : (t : List ℕ) → Going t 0
+begins t = record { fuel = length t; left = first t; enough = omega arith }
+
+module _ {t : List ℕ} {p : ℕ} (g : Going t p) where
+  pub out : length t ≤ p → EndsAt t (length t)
+  out h = ended g.left h
+
+  module _ (inside : p < length t) {b : ℕ} (at : b ≡ get_or t p 0) {o : Option Kind} (kind : o ≡ kind_of b) where
+    same-size : known_size o ≡ size_at t p
+    same-size = ap known_size kind ∙ ap (λ (b : ℕ). known_size (kind_of b)) at
+
+    pub at-unknown : o ≡ None → EndsAt t (length t)
+    at-unknown e =
+        let other : get_or t p 0 ≢ 8 = λ z. (let y : ◌≡◌ {A = Option Kind} (Some EndOfTable) None = sym (end-kind b (at ∙ z)) ∙ sym kind ∙ e in cc) in
+        unknown g.left (omega (arith, g.enough)) inside other (ap known_size (sym e) ∙ same-size) refl
+
+    module _ {k : Kind} (some : o ≡ Some k) where
+      pub at-end : k ≡ EndOfTable → EndsAt t (p + 1)
+      at-end e = end-record g.left (omega (arith, g.enough)) inside (sym at ∙ kind-end b (sym kind ∙ some ∙ ap Some e))
+
+      pub goes-on : (k ≡ EndOfTable → ⊥) → {s : ℕ} → s ≡ size_of k → Going t (p + s)
+      goes-on d {s} e =
+          let other : get_or t p 0 ≢ 8 = λ z. (let y : ◌≡◌ {A = Option Kind} (Some k) (Some EndOfTable) = sym some ∙ kind ∙ end-kind b (at ∙ z) in d cc) in
+          let size : s ≢ 0 = λ z. some-size k (sym e ∙ z) in
+          record {
+            fuel = g.fuel - 1;
+            left = next g.left (omega (arith, g.enough)) inside other (e ∙ ap known_size (sym some) ∙ same-size) size;
+            enough = omega (arith, g.enough, size);
+          }

@@ -1,11 +1,17 @@
 -- The definition: where the table ends that an input begins with. "the table ends at its first end record", found record by record,
 -- since a byte 8 may stand inside a record; where there is none, the whole input is the table.
-use Rattle.std.specs.Prelude.{ℕ, zero, suc, ◌+◌, ◌≤◌, ◌≡◌, cond, List, leb, eqb, length, get_or}
+use Rattle.std.specs.Prelude.{ℕ, Option, Some, None, zero, suc, ◌+◌, ◌≤◌, ◌≡◌, cond, List, leb, eqb, length, get_or}
+use Rattle.model.specs.declared.Kind.{Kind}
 use Rattle.model.specs.Records.{kind_of, size_of}
 
--- how long the record at p is, by its kind: 0 where no table has the kind
+-- how long a record is: 0 where no table has the kind
+abbrev pub known_size : Option Kind → ℕ
+known_size None = 0
+known_size (Some k) = size_of k
+
+-- how long the record at p is
 abbrev pub size_at : List ℕ → ℕ → ℕ
-size_at t p = size_of (kind_of (get_or t p 0))
+size_at t p = known_size (kind_of (get_or t p 0))
 
 -- from the record at p on, where `more` answers for the record behind it
 unfoldable pub end_at : List ℕ → ℕ → (ℕ → ℕ) → ℕ

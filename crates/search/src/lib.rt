@@ -1,23 +1,25 @@
-// The partner search: the first applicable instance of a rule at an occurrence. It reads the store through lent columns of
-// plain numbers, and the table where it lies; nothing that holds an array goes by value on the way of a try.
+// The partner search: the first applicable instance of a rule at an occurrence. It reads table, store and history where they lie;
+// nothing that holds an array goes by value on the way of a try, but the binding that a try begins with.
 #![tactic(auto)]
 
-use model::{FactId, HeadPlace, RuleShape};
+use model::{FactId, Fired, HeadPlace, RuleShape, Stored};
 
 pub mod partners;
 
-// What a search is for: the active fact at a head place, the rule there, and how much of the store and the history is in use.
+// What a search is for: the active fact at a head place, and the rule there. Facts and firings are those stored and noted.
 #[derive(Clone, Copy)]
-pub struct Quest {
+pub struct Quest<'a> {
+    pub table: &'a [u8],
+    pub store: &'a [Stored],
+    pub past: &'a [Fired],
     pub place: HeadPlace,
     pub shape: RuleShape,
     pub active: FactId,
-    pub stored: usize,
-    pub noted: usize,
 }
 
-// What a search comes to; the definition's `Found` holds the instance too.
-#[derive(Clone, Copy)]
+// What a search comes to.
+// Kept: three variants, as the definition's `Found`; the instance stays in what the caller lends, so that no array goes by value.
+#[derive(Clone, Copy, PartialEq, Eq)]
 pub enum Trial {
     Applies,
     Nothing,

@@ -4,7 +4,7 @@
 use Prim.Native.Nat.{ℕ}
 use native.Mathlib.Omega.{arith}
 use mathlib.Core.Path.{◌≡◌, sym, ◌∙◌, ap, subst}
-use mathlib.Core.Option.{none, some}
+use Rattle.std.specs.Prelude.{Some, None}
 use mathlib.Core.List.{List, ◌∷◌}
 use lib.ListN.{length}
 use Rattle.model.specs.declared.FactId.{FactId}
@@ -16,7 +16,7 @@ use Rattle.model.specs.declared.Stored.{Stored}
 use Rattle.model.specs.declared.Binding.{Binding}
 use Rattle.model.specs.declared.HeadPlace.{HeadPlace}
 use Rattle.model.specs.Table.{Table, rule_at}
-use Rattle.model.specs.Search.{Fired}
+use Rattle.model.specs.declared.Fired.{Fired}
 use Rattle.model.specs.Steps.{State, active_entry}
 use Rattle.semantics.specs.Refined.{occurrence, Trying, Applies, Drop, Simplify, Propagate, Default}
 
@@ -52,7 +52,7 @@ module _ (t : Table) {A : List Entry} (a a' : Trying t A) where
       ap (λ (x : Symbol). occurrence t x a.j) s ∙ ap (occurrence t a'.symbol) n
 
   pub same-place : a.place ≡ a'.place
-  same-place = let e : some a.place ≡ some a'.place = sym a.occurs ∙ at ∙ a'.occurs in cc e
+  same-place = let e : Some a.place ≡ Some a'.place = sym a.occurs ∙ at ∙ a'.occurs in cc e
 
   -- what holds of the one holds of the other
   pub same-try : (P : HeadPlace → FactId → Type 0) → P a.place a.id → P a'.place a'.id
@@ -81,6 +81,5 @@ module _ (t : Table) (σ τ τ' : State) where
       let e : active_entry d.symbol d.id d.j ∷ τ.stack ≡ active_entry a.symbol a.id a.j ∷ a.under = sym d.top ∙ a.top in
       let s = same-symbol d.symbol a.symbol d.id a.id d.j a.j τ.stack a.under e in
       let n = same-j d.symbol a.symbol d.id a.id d.j a.j τ.stack a.under e in
-      let o : none ≡ some a.place = sym d.absent ∙ ap (λ (x : Symbol). occurrence t x d.j) s ∙ ap (occurrence t a.symbol) n ∙ a.occurs in
-      let w : ◌≡◌ {A = ℕ} 0 1 = cc o in
-      omega arith
+      let o : None ≡ Some a.place = sym d.absent ∙ ap (λ (x : Symbol). occurrence t x d.j) s ∙ ap (occurrence t a.symbol) n ∙ a.occurs in
+      cc o

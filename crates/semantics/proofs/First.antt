@@ -5,16 +5,13 @@ use Prim.Native.Nat.{ℕ}
 use native.Mathlib.Omega.{arith}
 use mathlib.Core.Path.{◌≡◌, refl, sym, ◌∙◌, ap, subst}
 use mathlib.Core.Bool.{Bool, true, false}
-use mathlib.Core.Option.{Option}
+use Rattle.std.specs.Prelude.{Option, Some}
 use mathlib.Core.Logic.{◌⊎◌, inl, inr}
 use mathlib.Core.List.{List, [], ◌∷◌, Memᴰ}
 use lib.IntN.{ℤ}
 use lib.Dec.{ltb}
 use lib.ListN.{length, length-map}
 use borrow.Author.Tests.{ltb-true, ltb-false}
-use Rattle.numbers.specs.declared.Value.{Value}
-use Rattle.numbers.specs.declared.Truth.{Truth}
-use Rattle.numbers.specs.declared.Truth.TheVariants.{False}
 use Rattle.model.specs.declared.FactId.{FactId}
 use Rattle.model.specs.declared.Entry.{Entry}
 use Rattle.model.specs.declared.Stored.{Stored}
@@ -23,7 +20,7 @@ use Rattle.model.specs.declared.HeadPlace.{HeadPlace}
 use Rattle.model.specs.declared.Expression.{Expression}
 use Rattle.model.specs.Table.{Table, BodyItem, body_fact, body_fail, heads, rule_at}
 use Rattle.model.specs.Guards.{expression_value, guard_value}
-use Rattle.model.specs.Steps.{State, cons_defined, argument_values, waiting_if, item_entry, cons_entry, body_entries}
+use Rattle.model.specs.Steps.{State, cons_defined, argument_values, waiting_if, item_entry, body_entries}
 use Rattle.model.proofs.Every.{every}
 use Rattle.model.proofs.Sound.{ids_of}
 use Rattle.model.proofs.Kept.{Rising}
@@ -76,7 +73,7 @@ module _ (b c : Binding) (p : PartOf b c) (q : PartOf c b) where
   unfolding argument_values
   arguments-same [] = refl
   arguments-same (e ∷ es) =
-      ap (λ (v : Value). cons_defined v (argument_values b es)) (expression-same b c p q e)
+      ap (λ (v : Option ℤ). cons_defined v (argument_values b es)) (expression-same b c p q e)
       ∙ ap (λ (vs : Option (List ℤ)). cons_defined (expression_value c e) vs) (arguments-same es)
 
   item-same : (item : BodyItem) → item_entry b item ≡ item_entry c item
@@ -88,13 +85,13 @@ module _ (b c : Binding) (p : PartOf b c) (q : PartOf c b) where
   unfolding body_entries
   body-same [] = refl
   body-same (i ∷ items) =
-      ap (λ (e : Option Entry). cons_entry e (body_entries b items)) (item-same i)
-      ∙ ap (λ (es : Option (List Entry)). cons_entry (item_entry c i) es) (body-same items)
+      ap (λ (e : Option Entry). cons_defined e (body_entries b items)) (item-same i)
+      ∙ ap (λ (es : Option (List Entry)). cons_defined (item_entry c i) es) (body-same items)
 
 -- ---- the first is one
 
 -- what two firsts have in common
-pub record SameFirst (g g' : Truth) (facts facts' : List Stored) (θ θ' : Binding) : Type 0 where
+pub record SameFirst (g g' : Option Bool) (facts facts' : List Stored) (θ θ' : Binding) : Type 0 where
   pub same : facts ≡ facts'
   pub part : PartOf θ θ'
   pub back : PartOf θ' θ
@@ -102,18 +99,18 @@ pub record SameFirst (g g' : Truth) (facts facts' : List Stored) (θ θ' : Bindi
 
 module _ (t : Table) (σ : State) where
   -- a first, of the place and the identifier
-  record At (p : HeadPlace) (i : FactId) (g : Truth) (facts : List Stored) (θ : Binding) : Type 0 where
+  record At (p : HeadPlace) (i : FactId) (g : Option Bool) (facts : List Stored) (θ : Binding) : Type 0 where
     matching : Matching σ.store p (rule_at t p.rule) i facts θ
     fresh : Memᴰ (firing p facts) σ.history → ⊥
     guard : guard_value θ (rule_at t p.rule).guards ≡ g
     before : (facts' : List Stored) (θ' : Binding) → Matching σ.store p (rule_at t p.rule) i facts' θ' → Before (ids_of facts') (ids_of facts)
-        → (Memᴰ (firing p facts') σ.history → ⊥) → guard_value θ' (rule_at t p.rule).guards ≡ False
+        → (Memᴰ (firing p facts') σ.history → ⊥) → guard_value θ' (rule_at t p.rule).guards ≡ Some false
 
-  first-at : (a : Trying t σ.stack) (g : Truth) (facts : List Stored) (θ : Binding) → First t σ a g facts θ → At a.place a.id g facts θ
+  first-at : (a : Trying t σ.stack) (g : Option Bool) (facts : List Stored) (θ : Binding) → First t σ a g facts θ → At a.place a.id g facts θ
   first-at a g facts θ u = record { matching = u.matching; fresh = u.fresh; guard = u.guard; before = u.before }
 
-  module _ (listed : Listed σ) (p : HeadPlace) (i : FactId) (g g' : Truth) (facts facts' : List Stored) (θ θ' : Binding) (u : At p i g facts θ)
-      (u' : At p i g' facts' θ') (n : g ≡ False → ⊥) (n' : g' ≡ False → ⊥) where
+  module _ (listed : Listed σ) (p : HeadPlace) (i : FactId) (g g' : Option Bool) (facts facts' : List Stored) (θ θ' : Binding) (u : At p i g facts θ)
+      (u' : At p i g' facts' θ') (n : g ≡ Some false → ⊥) (n' : g' ≡ Some false → ⊥) where
     as-long : length (ids_of facts) ≡ length (ids_of facts')
     as-long =
         length-map facts (λ (s : Stored). s.id) ∙ heads-count θ (heads (rule_at t p.rule)) facts u.matching.matched
@@ -137,8 +134,8 @@ module _ (t : Table) (σ : State) where
         record { same = e; part = part; back = back; guard = sym u.guard ∙ guard-same θ θ' part back (rule_at t p.rule).guards ∙ u'.guard }
 
   -- two firsts with a guard that is not false, for the entry on top
-  pub one-first : Listed σ → (a a' : Trying t σ.stack) (g g' : Truth) (facts facts' : List Stored) (θ θ' : Binding) → First t σ a g facts θ
-      → First t σ a' g' facts' θ' → (g ≡ False → ⊥) → (g' ≡ False → ⊥) → SameFirst g g' facts facts' θ θ'
+  pub one-first : Listed σ → (a a' : Trying t σ.stack) (g g' : Option Bool) (facts facts' : List Stored) (θ θ' : Binding) → First t σ a g facts θ
+      → First t σ a' g' facts' θ' → (g ≡ Some false → ⊥) → (g' ≡ Some false → ⊥) → SameFirst g g' facts facts' θ θ'
   one-first listed a a' g g' facts facts' θ θ' u u' n n' =
       let v : At a'.place a'.id g facts θ = same-try t a a' (λ (p : HeadPlace) (i : FactId). At p i g facts θ) (first-at a g facts θ u) in
       at-same listed a'.place a'.id g g' facts facts' θ θ' v (first-at a' g' facts' θ' u') n n'

@@ -5,7 +5,7 @@ use Prim.Native.Nat.{ℕ, zero, suc, ◌≤◌, ◌<◌}
 use native.Mathlib.Omega.{arith}
 use mathlib.Core.Path.{◌≡◌, refl, sym, ◌∙◌, ap, subst}
 use mathlib.Core.Bool.{Bool, true, false, not, ◌&&◌, ◌||◌}
-use mathlib.Core.Option.{Option, none, some}
+use Rattle.std.specs.Prelude.{Option, Some, None}
 use mathlib.Core.Logic.{◌⊎◌, inl, inr}
 use mathlib.Core.List.{List, [], ◌∷◌, ◌++◌, Memᴰ}
 use lib.IntN.{ℤ}
@@ -25,8 +25,9 @@ use Rattle.model.specs.declared.Binding.{Binding}
 use Rattle.model.specs.declared.HeadPlace.{HeadPlace}
 use Rattle.model.specs.Limits.{most_heads}
 use Rattle.model.specs.Table.{Head, Table, BodyItem, body_fact, body_fail, heads, rule_at}
-use Rattle.model.specs.Search.{same_id, is_among, nobody, Fired, four, fired_of, same_ids, same_fired, in_history}
-use Rattle.model.specs.Steps.{State, argument_values, waiting_if, item_entry, cons_entry, body_entries, keep, without, names, pruned, remembered}
+use Rattle.model.specs.declared.Fired.{Fired}
+use Rattle.model.specs.Search.{same_id, is_among, nobody, four, fired_of, same_ids, same_fired, in_history}
+use Rattle.model.specs.Steps.{State, argument_values, waiting_if, item_entry, cons_defined, body_entries, keep, without, names, pruned, remembered}
 use Rattle.model.specs.Steps.{activated, advanced, dropped}
 use Rattle.model.specs.Keeping.{kept_all}
 use Rattle.model.proofs.Every.{every, every-weaken}
@@ -55,7 +56,7 @@ among-mem i (j ∷ is) m = go (mathlib.Core.List.Memᴰ.cases_cons m) (λ m. amo
 
 mem-among : (i : FactId) (is : List FactId) → is_among i is ≡ true → Memᴰ i is
 unfolding is_among
-mem-among i [] e = absurd (let w : ◌≡◌ {A = ℕ} 0 1 = cc in omega arith)
+mem-among i [] e = absurd cc
 mem-among i (j ∷ is) e = go (same_id i j) refl e (λ e. mem-among i is e)
   where
     go : (x : Bool) → same_id i j ≡ x → (x || is_among i is) ≡ true → (is_among i is ≡ true → Memᴰ i is) → Memᴰ i (j ∷ is)
@@ -109,7 +110,7 @@ mem-keep p (y ∷ l) x m e = go (p y) refl (mathlib.Core.List.Memᴰ.cases_cons 
         → Memᴰ x (elim b [ true ↦ y ∷ keep p l | false ↦ keep p l ])
     go true q (inl e') ih = mathlib.Core.List.Memᴰ.head e'
     go true q (inr m) ih = mathlib.Core.List.Memᴰ.tail (ih m)
-    go false q (inl e') ih = absurd (let f = ap p e' in let w : ◌≡◌ {A = ℕ} 0 1 = cc in omega arith)
+    go false q (inl e') ih = absurd (let f = ap p e' in cc)
     go false q (inr m) ih = ih m
 
 -- ---- the store behind a firing
@@ -125,8 +126,7 @@ module _ (store H : List Stored) where
       let i : s.id ≡ x.id = same-id s.id x.id (eq-eqb s.id.0 x.id.0 e) in
       let a : is_among s.id (ids_of H) ≡ true = subst (λ (j : FactId). is_among j (ids_of H) ≡ true) (sym i) (among-mem x.id (ids_of H) (ids-mem x H n)) in
       let b = not-true (is_among s.id (ids_of H)) (left-mem s m).1 in
-      let w : ◌≡◌ {A = ℕ} 0 1 = cc in
-      omega arith
+      cc
 
   pub without-is : (hi : ℕ) → Rising 1 hi store → every (λ s. Memᴰ s store) H → Without H store (without (ids_of H) store)
   unfolding without
@@ -159,7 +159,7 @@ four-same is js n l e = ext_get_or nobody is js n at
 
 pub in-history : (e : Fired) (ds : List Fired) → in_history e ds ≡ true → Memᴰ e ds
 unfolding in_history same_fired
-in-history e [] q = absurd (let w : ◌≡◌ {A = ℕ} 0 1 = cc in omega arith)
+in-history e [] q = absurd cc
 in-history e (d ∷ ds) q = go (same_fired d e) refl q (λ q. in-history e ds q)
   where
     go : (x : Bool) → same_fired d e ≡ x → (x || in_history e ds) ≡ true → (in_history e ds ≡ true → Memᴰ e ds) → Memᴰ e (d ∷ ds)
@@ -338,7 +338,7 @@ module _ (t : Table) (st : State) (T : List Fired) (k : Follows t st T) (p : Hea
   -- whether a list of identifiers names a fact of H
   names-mem : (is : List FactId) → names is (ids_of H) ≡ true → (x : Stored) × Memᴰ x.id is × Memᴰ x H
   unfolding names
-  names-mem [] e = absurd (let w : ◌≡◌ {A = ℕ} 0 1 = cc in omega arith)
+  names-mem [] e = absurd cc
   names-mem (j ∷ is) e = go (is_among j (ids_of H)) refl e (λ e. names-mem is e)
     where
       go : (x : Bool) → is_among j (ids_of H) ≡ x → (x || names is (ids_of H)) ≡ true
@@ -357,7 +357,7 @@ module _ (t : Table) (st : State) (T : List Fired) (k : Follows t st T) (p : Hea
       left false e = refl
 
       right : (x : Bool) → (x || names is (ids_of H)) ≡ false → names is (ids_of H) ≡ false
-      right true e = absurd (let w : ◌≡◌ {A = ℕ} 0 1 = cc in omega arith)
+      right true e = absurd cc
       right false e = e
 
   pub nobody-live : Live (ids_of H) nobody
@@ -462,10 +462,10 @@ module _ (t : Table) (st : State) (T : List Fired) (k : Follows t st T) (p : Hea
 
 -- ---- a body's entries wait or fail
 
-cons-entries : (P : Entry → Type 0) (a : Option Entry) (o : Option (List Entry)) → OptionIs P a → OptionIs (every P) o → OptionIs (every P) (cons_entry a o)
-cons-entries P none o u v = tt
-cons-entries P (some e) none u v = tt
-cons-entries P (some e) (some es) u v = (u, v)
+cons-entries : (P : Entry → Type 0) (a : Option Entry) (o : Option (List Entry)) → OptionIs P a → OptionIs (every P) o → OptionIs (every P) (cons_defined a o)
+cons-entries P None o u v = tt
+cons-entries P (Some e) None u v = tt
+cons-entries P (Some e) (Some es) u v = (u, v)
 
 item-entry : (n : ℕ) (b : Binding) (item : BodyItem) → OptionIs (EntryIs n) (item_entry b item)
 unfolding item_entry
@@ -473,8 +473,8 @@ item-entry n b body_fail = tt
 item-entry n b (body_fact s es) = go (argument_values b es)
   where
     go : (v : Option (List ℤ)) → OptionIs (EntryIs n) (waiting_if s v)
-    go none = tt
-    go (some vs) = refl
+    go None = tt
+    go (Some vs) = refl
 
 pub body-entries : (n : ℕ) (b : Binding) (items : List BodyItem) → OptionIs (every (EntryIs n)) (body_entries b items)
 unfolding body_entries

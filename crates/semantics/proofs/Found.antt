@@ -6,15 +6,13 @@ use Prim.Native.Nat.{ℕ, zero, suc}
 use native.Mathlib.Omega.{arith}
 use mathlib.Core.Path.{◌≡◌, refl, sym, ◌∙◌, ap, subst}
 use mathlib.Core.Bool.{Bool, true, false}
-use mathlib.Core.Option.{Option, none, some}
+use Rattle.std.specs.Prelude.{Option, Some, None}
 use mathlib.Core.Logic.{◌⊎◌, inl, inr}
 use mathlib.Core.List.Memᴰ
 use mathlib.Core.List.{List, [], ◌∷◌, ◌++◌, append_assoc, append-nil, Memᴰ}
 use lib.Dec.{eqb}
 use lib.ListN.{length, get_or, drop, length-append}
 use borrow.Author.Tests.{eqb-true}
-use Rattle.numbers.specs.declared.Truth.{Truth}
-use Rattle.numbers.specs.declared.Truth.TheVariants.{True, False, Undefined as Unknown}
 use Rattle.model.specs.declared.FactId.{FactId}
 use Rattle.model.specs.declared.Stored.{Stored}
 use Rattle.model.specs.declared.Binding.{Binding}
@@ -22,7 +20,8 @@ use Rattle.model.specs.declared.HeadPlace.{HeadPlace}
 use Rattle.model.specs.Table.{Head, Rule, heads}
 use Rattle.model.specs.Guards.{guard_value}
 use Rattle.model.specs.Matching.{match_head}
-use Rattle.model.specs.Search.{Fired, fired_of, in_history, Found, nothing, undefined_guard, applies, unless_known, or_else, first_of, and_then, may_stand}
+use Rattle.model.specs.declared.Fired.{Fired}
+use Rattle.model.specs.Search.{fired_of, in_history, Found, nothing, undefined_guard, applies, unless_known, or_else, first_of, and_then, may_stand}
 use Rattle.model.specs.Search.{no_head, complete, candidate, search}
 use Rattle.model.proofs.Lists.{every-mem}
 use Rattle.model.proofs.Sound.{ids_of}
@@ -33,15 +32,15 @@ use Rattle.semantics.proofs.Match.{Sized, part-refl, part-trans, Extends, Matche
 -- ---- lists
 
 drop-at : {A : Type 0} (n : ℕ) (l : List A) (x d : A) (xs : List A) → drop n l ≡ x ∷ xs → get_or l n d ≡ x
-drop-at zero [] x d xs e = absurd (let w : ◌≡◌ {A = ℕ} 0 1 = cc in omega arith)
+drop-at zero [] x d xs e = absurd cc
 drop-at zero (y ∷ l) x d xs e = cc
-drop-at (suc n) [] x d xs e = absurd (let w : ◌≡◌ {A = ℕ} 0 1 = cc in omega arith)
+drop-at (suc n) [] x d xs e = absurd cc
 drop-at (suc n) (y ∷ l) x d xs e = drop-at n l x d xs e
 
 drop-next : {A : Type 0} (n : ℕ) (l : List A) (x : A) (xs : List A) → drop n l ≡ x ∷ xs → drop (suc n) l ≡ xs
-drop-next zero [] x xs e = absurd (let w : ◌≡◌ {A = ℕ} 0 1 = cc in omega arith)
+drop-next zero [] x xs e = absurd cc
 drop-next zero (y ∷ l) x xs e = cc
-drop-next (suc n) [] x xs e = absurd (let w : ◌≡◌ {A = ℕ} 0 1 = cc in omega arith)
+drop-next (suc n) [] x xs e = absurd cc
 drop-next (suc n) (y ∷ l) x xs e = drop-next n l x xs e
 
 pub length-snoc : {A : Type 0} (l : List A) (x : A) → length (l ++ (x ∷ [])) ≡ suc (length l)
@@ -51,9 +50,9 @@ length-snoc l x = simp length-append (omega arith)
 
 module _ (history : List Fired) (p : HeadPlace) (r : Rule) where
   abbrev pub Passed : List FactId → Binding → Type 0
-  Passed is θ = in_history (fired_of p.rule is) history ≡ false → guard_value θ r.guards ≡ False
+  Passed is θ = in_history (fired_of p.rule is) history ≡ false → guard_value θ r.guards ≡ Some false
 
-  pub record Picked (C : List Stored → Binding → Type 0) (chosen : List FactId) (g : Truth) (ss : List Stored) (θ : Binding) : Type 0 where
+  pub record Picked (C : List Stored → Binding → Type 0) (chosen : List FactId) (g : Option Bool) (ss : List Stored) (θ : Binding) : Type 0 where
     pub way : C ss θ
     pub fresh : in_history (fired_of p.rule (chosen ++ ids_of ss)) history ≡ false
     pub guard : guard_value θ r.guards ≡ g
@@ -61,13 +60,13 @@ module _ (history : List Fired) (p : HeadPlace) (r : Rule) where
 
   abbrev pub Verdict : (List Stored → Binding → Type 0) → List FactId → Found → Type 0
   Verdict C chosen nothing = (ss : List Stored) (θ : Binding) → C ss θ → Passed (chosen ++ ids_of ss) θ
-  Verdict C chosen undefined_guard = (ss : List Stored) × (θ : Binding) × Picked C chosen Unknown ss θ
-  Verdict C chosen (applies is b) = (ss : List Stored) × Picked C chosen True ss b × (is ≡ chosen ++ ids_of ss)
+  Verdict C chosen undefined_guard = (ss : List Stored) × (θ : Binding) × Picked C chosen None ss θ
+  Verdict C chosen (applies is b) = (ss : List Stored) × Picked C chosen (Some true) ss b × (is ≡ chosen ++ ids_of ss)
 
   -- the same ways
   module _ (C D : List Stored → Binding → Type 0) (into : (ss : List Stored) (θ : Binding) → C ss θ → D ss θ)
       (from : (ss : List Stored) (θ : Binding) → D ss θ → C ss θ) where
-    picked-same : (chosen : List FactId) (g : Truth) (ss : List Stored) (θ : Binding) → Picked C chosen g ss θ → Picked D chosen g ss θ
+    picked-same : (chosen : List FactId) (g : Option Bool) (ss : List Stored) (θ : Binding) → Picked C chosen g ss θ → Picked D chosen g ss θ
     picked-same chosen g ss θ u = record {
       way = into ss θ u.way;
       fresh = u.fresh;
@@ -77,8 +76,8 @@ module _ (history : List Fired) (p : HeadPlace) (r : Rule) where
 
     pub verdict-same : (chosen : List FactId) (o : Found) → Verdict C chosen o → Verdict D chosen o
     verdict-same chosen nothing u = λ ss θ d. u ss θ (from ss θ d)
-    verdict-same chosen undefined_guard u = (u.0, u.1, picked-same chosen Unknown u.0 u.1 u.2)
-    verdict-same chosen (applies is b) u = (u.0, picked-same chosen True u.0 b u.1, u.2)
+    verdict-same chosen undefined_guard u = (u.0, u.1, picked-same chosen None u.0 u.1 u.2)
+    verdict-same chosen (applies is b) u = (u.0, picked-same chosen (Some true) u.0 b u.1, u.2)
 
   -- the ways that begin with x are those of the choice with x
   module _ (C D : List Stored → Binding → Type 0) (chosen : List FactId) (x : Stored) (into : (ss : List Stored) (θ : Binding) → D ss θ → C (x ∷ ss) θ)
@@ -97,7 +96,7 @@ module _ (history : List Fired) (p : HeadPlace) (r : Rule) where
     before-tail rest ss (inl l) = absurd (omega (arith, l))
     before-tail rest ss (inr b) = b.1
 
-    picked-cons : (g : Truth) (ss : List Stored) (θ : Binding) → Picked D (chosen ++ (x.id ∷ [])) g ss θ → Picked C chosen g (x ∷ ss) θ
+    picked-cons : (g : Option Bool) (ss : List Stored) (θ : Binding) → Picked D (chosen ++ (x.id ∷ [])) g ss θ → Picked C chosen g (x ∷ ss) θ
     picked-cons g ss θ u = record {
       way = into ss θ u.way;
       fresh = subst (λ (l : List FactId). in_history (fired_of p.rule l) history ≡ false) (further ss) u.fresh;
@@ -108,21 +107,21 @@ module _ (history : List Fired) (p : HeadPlace) (r : Rule) where
 
     pub verdict-cons : (o : Found) → Verdict D (chosen ++ (x.id ∷ [])) o → Verdict C chosen o
     verdict-cons nothing u = λ ss θ c. passed-cons ss θ (λ rest e d. u rest θ d) c
-    verdict-cons undefined_guard u = (x ∷ u.0, u.1, picked-cons Unknown u.0 u.1 u.2)
-    verdict-cons (applies is b) u = (x ∷ u.0, picked-cons True u.0 b u.1, u.2 ∙ further u.0)
+    verdict-cons undefined_guard u = (x ∷ u.0, u.1, picked-cons None u.0 u.1 u.2)
+    verdict-cons (applies is b) u = (x ∷ u.0, picked-cons (Some true) u.0 b u.1, u.2 ∙ further u.0)
 
   -- the ways of C₁, and behind them those of C₂
   module _ (C C₁ C₂ : List Stored → Binding → Type 0) (chosen : List FactId) (parts : (ss : List Stored) (θ : Binding) → C ss θ → C₁ ss θ ⊎ C₂ ss θ)
       (into₁ : (ss : List Stored) (θ : Binding) → C₁ ss θ → C ss θ) (into₂ : (ss : List Stored) (θ : Binding) → C₂ ss θ → C ss θ)
       (behind : (ss ss' : List Stored) (θ θ' : Binding) → C₁ ss θ → C₂ ss' θ' → Before (ids_of ss') (ids_of ss) → ⊥) where
-    picked-first : (g : Truth) (ss : List Stored) (θ : Binding) → Picked C₁ chosen g ss θ → Picked C chosen g ss θ
+    picked-first : (g : Option Bool) (ss : List Stored) (θ : Binding) → Picked C₁ chosen g ss θ → Picked C chosen g ss θ
     picked-first g ss θ u = record { way = into₁ ss θ u.way; fresh = u.fresh; guard = u.guard; first = λ ss' θ' c b. go ss' θ' b (parts ss' θ' c) }
       where
         go : (ss' : List Stored) (θ' : Binding) → Before (ids_of ss') (ids_of ss) → C₁ ss' θ' ⊎ C₂ ss' θ' → Passed (chosen ++ ids_of ss') θ'
         go ss' θ' b (inl c) = u.first ss' θ' c b
         go ss' θ' b (inr c) = absurd (behind ss ss' θ θ' u.way c b)
 
-    picked-behind : (g : Truth) (ss : List Stored) (θ : Binding) → ((ss' : List Stored) (θ' : Binding) → C₁ ss' θ' → Passed (chosen ++ ids_of ss') θ')
+    picked-behind : (g : Option Bool) (ss : List Stored) (θ : Binding) → ((ss' : List Stored) (θ' : Binding) → C₁ ss' θ' → Passed (chosen ++ ids_of ss') θ')
         → Picked C₂ chosen g ss θ → Picked C chosen g ss θ
     picked-behind g ss θ v u = record { way = into₂ ss θ u.way; fresh = u.fresh; guard = u.guard; first = λ ss' θ' c b. go ss' θ' b (parts ss' θ' c) }
       where
@@ -136,10 +135,10 @@ module _ (history : List Fired) (p : HeadPlace) (r : Rule) where
         go : (ss : List Stored) (θ : Binding) → C₁ ss θ ⊎ C₂ ss θ → Passed (chosen ++ ids_of ss) θ
         go ss θ (inl c) = u ss θ c
         go ss θ (inr c) = v ss θ c
-    verdict-or nothing undefined_guard u v = (v.0, v.1, picked-behind Unknown v.0 v.1 u v.2)
-    verdict-or nothing (applies is b) u v = (v.0, picked-behind True v.0 b u v.1, v.2)
-    verdict-or undefined_guard b u v = (u.0, u.1, picked-first Unknown u.0 u.1 u.2)
-    verdict-or (applies is c) b u v = (u.0, picked-first True u.0 c u.1, u.2)
+    verdict-or nothing undefined_guard u v = (v.0, v.1, picked-behind None v.0 v.1 u v.2)
+    verdict-or nothing (applies is b) u v = (v.0, picked-behind (Some true) v.0 b u v.1, v.2)
+    verdict-or undefined_guard b u v = (u.0, u.1, picked-first None u.0 u.1 u.2)
+    verdict-or (applies is c) b u v = (u.0, picked-first (Some true) u.0 c u.1, u.2)
 
 -- ---- the ways to complete a choice: facts for the heads that are left, and the least binding that has what is bound and makes those heads equal
 -- to the facts. `own` is the active fact
@@ -176,7 +175,7 @@ module _ (store : List Stored) (history : List Fired) (p : HeadPlace) (r : Rule)
     done-ids [] θ c = append-nil chosen
     done-ids (s ∷ ss) θ c = absurd c.fill
 
-    done-picked : (g : Truth) → in_history (fired_of p.rule chosen) history ≡ false → guard_value b r.guards ≡ g
+    done-picked : (g : Option Bool) → in_history (fired_of p.rule chosen) history ≡ false → guard_value b r.guards ≡ g
         → Picked history p r (Completion [] chosen b) chosen g [] b
     done-picked g k e = record {
       way = record { fill = tt; part = part-refl b; least = λ η q m. q };
@@ -189,14 +188,14 @@ module _ (store : List Stored) (history : List Fired) (p : HeadPlace) (r : Rule)
         none [] l = l
         none (s ∷ ss) l = l
 
-    done-verdict : (known : Bool) (g : Truth) → in_history (fired_of p.rule chosen) history ≡ known → guard_value b r.guards ≡ g
+    done-verdict : (known : Bool) (g : Option Bool) → in_history (fired_of p.rule chosen) history ≡ known → guard_value b r.guards ≡ g
         → Verdict history p r (Completion [] chosen b) chosen (unless_known known g chosen b)
     done-verdict true g k e =
         λ ss θ c f. absurd (let n = ap (λ (l : List FactId). in_history (fired_of p.rule l) history) (done-ids ss θ c) in
-        let z : ◌≡◌ {A = ℕ} 0 1 = cc in omega arith)
-    done-verdict false True k e = ([], done-picked True k e, sym (append-nil chosen))
-    done-verdict false False k e = λ ss θ c f. done-guard ss θ c ∙ e
-    done-verdict false Unknown k e = ([], b, done-picked Unknown k e)
+        cc)
+    done-verdict false (Some true) k e = ([], done-picked (Some true) k e, sym (append-nil chosen))
+    done-verdict false (Some false) k e = λ ss θ c f. done-guard ss θ c ∙ e
+    done-verdict false None k e = ([], b, done-picked None k e)
 
   -- ---- the next head is the active fact's
 
@@ -286,16 +285,16 @@ module _ (store : List Stored) (history : List Fired) (p : HeadPlace) (r : Rule)
         where
           matches : may_stand own.id chosen s.id ≡ true → (o : Option Binding) → Matched (λ η. HeadIs η h s.fact) b o
               → Verdict history p r (With s) chosen (and_then o (λ c. search store history p r own.id hs (chosen ++ (s.id ∷ [])) c))
-          matches may none u = λ ss θ c. absurd (u θ c.0.part (fits s ss θ c))
-          matches may (some c) u =
+          matches may None u = λ ss θ c. absurd (u θ c.0.part (fits s ss θ c))
+          matches may (Some c) u =
               verdict-cons history p r (With s) (Completion hs (chosen ++ (s.id ∷ [])) c) chosen s (with-into s m may c u) (with-from s m may c u)
               (search store history p r own.id hs (chosen ++ (s.id ∷ [])) c) (ih s c u.sized u.part)
 
           go : (x : Bool) → may_stand own.id chosen s.id ≡ x
               → Verdict history p r (With s) chosen
-              (and_then (elim x [ true ↦ match_head h s.fact b | false ↦ none ]) (λ c. search store history p r own.id hs (chosen ++ (s.id ∷ [])) c))
+              (and_then (elim x [ true ↦ match_head h s.fact b | false ↦ None ]) (λ c. search store history p r own.id hs (chosen ++ (s.id ∷ [])) c))
           go true e = matches e (match_head h s.fact b) (head-matched h s.fact b k)
-          go false e = λ ss θ c. absurd (let f = stands s ss θ c in let z : ◌≡◌ {A = ℕ} 0 1 = cc in omega arith)
+          go false e = λ ss θ c. absurd (let f = stands s ss θ c in cc)
 
       list-verdict : (l : List Stored) (lo hi : ℕ) → ((s : Stored) → Memᴰ s l → Memᴰ s store) → Rising lo hi l
           → Verdict history p r (Among l) chosen (first_of try l)

@@ -19,7 +19,8 @@ use Rattle.model.specs.declared.Binding.{Binding}
 use Rattle.model.specs.declared.HeadPlace.{HeadPlace}
 use Rattle.model.specs.Limits.{most_heads}
 use Rattle.model.specs.Table.{Head, Rule, Table, heads, no_rule, rule_at}
-use Rattle.model.specs.Search.{same_id, is_among, nobody, Fired, four, fired_of}
+use Rattle.model.specs.declared.Fired.{Fired}
+use Rattle.model.specs.Search.{same_id, is_among, nobody, four, fired_of}
 use Rattle.model.specs.Steps.{State, keep, without, names, pruned, prunes, step_item}
 use Rattle.model.proofs.Every.{every, every-weaken}
 use Rattle.model.proofs.Lists.{every-get_d, map-snoc, keep-snoc, keep-keep}

@@ -19,7 +19,8 @@ use Rattle.model.specs.declared.Entry.{Entry}
 use Rattle.model.specs.declared.Stored.{Stored}
 use Rattle.model.specs.declared.Binding.{Binding}
 use Rattle.model.specs.Table.{Table, rule_at, places}
-use Rattle.model.specs.Search.{Fired, fired_of, in_history}
+use Rattle.model.specs.declared.Fired.{Fired}
+use Rattle.model.specs.Search.{fired_of, in_history}
 use Rattle.model.specs.Steps.{State, start, prunes, Outcome, moves, fires, fails, stops, step_item}
 use Rattle.model.specs.Results.{Counts, no_counts}
 use Rattle.model.specs.Run.{Ended, ended_as, stepped, fired_once, run_from, run}
@@ -51,7 +52,7 @@ LocallyTaken t st H (stops n p) = 3 ≤ n
 -- a goal is flushed from the buffer to the stack
 pub flush-start : (t : Table) (f : Fact) (goal : List Fact) → LocalStep t (record { U = f ∷ goal; G = []; S = []; H = [] }) (local (start (f ∷ goal)) [])
 unfolding start
-flush-start t f goal = flush (record { nonempty = λ e. (let w : ◌≡◌ {A = ℕ} 0 1 = cc in omega arith); idle = refl; U = refl; G = refl; S = refl; H = refl })
+flush-start t f goal = flush (record { nonempty = λ e. cc; idle = refl; U = refl; G = refl; S = refl; H = refl })
 
 -- ---- a rule with a removed head is not in the definition's history
 
@@ -235,8 +236,8 @@ module _ (t : Table) (few : FewHeads t) where
 -- from where it ends there is no transition
 pub local-final : (t : Table) (σ τ : Local) → σ.U ≡ [] → σ.G ≡ [] → LocalStep t σ τ → ⊥
 local-final t σ τ u g (flush s) = s.nonempty u
-local-final t σ τ u g (activate s) = let e = s.top in let w : ◌≡◌ {A = ℕ} 0 1 = cc in omega arith
-local-final t σ τ u g (remove s) = let e = s.tried.top in let w : ◌≡◌ {A = ℕ} 0 1 = cc in omega arith
-local-final t σ τ u g (keep s) = let e = s.tried.top in let w : ◌≡◌ {A = ℕ} 0 1 = cc in omega arith
-local-final t σ τ u g (suspend s) = let e = s.tried.top in let w : ◌≡◌ {A = ℕ} 0 1 = cc in omega arith
-local-final t σ τ u g (drop- s) = let e = s.top in let w : ◌≡◌ {A = ℕ} 0 1 = cc in omega arith
+local-final t σ τ u g (activate s) = let e = s.top in cc
+local-final t σ τ u g (remove s) = let e = s.tried.top in cc
+local-final t σ τ u g (keep s) = let e = s.tried.top in cc
+local-final t σ τ u g (suspend s) = let e = s.tried.top in cc
+local-final t σ τ u g (drop- s) = let e = s.top in cc

@@ -4,12 +4,12 @@ use Prim.Native.Nat.{ℕ, zero, suc, ◌+◌, ◌-◌, ◌≤◌, ◌<◌}
 use native.Mathlib.Omega.{arith}
 use mathlib.Core.Path.{◌≡◌, refl, sym, ◌∙◌, ap, subst}
 use mathlib.Core.Bool.{Bool, true, false, ◌||◌}
-use mathlib.Core.Option.{Option, none, some}
+use Rattle.std.specs.Prelude.{Option, Some, None, slice_get}
 use mathlib.Core.Logic.{◌⊎◌, inl, inr}
 use mathlib.Core.List.Memᴰ
 use mathlib.Core.List.{List, [], ◌∷◌, ◌++◌, Memᴰ}
 use lib.Dec.{eqb, ltb}
-use lib.ListN.{length, get_or, get_elem?}
+use lib.ListN.{length, get_or}
 use borrow.Author.Tests.{eqb-true, eqb-false, eq-eqb, ne_eqb, ltb-true, ltb-false}
 use Rattle.model.specs.declared.FactId.{FactId}
 use Rattle.model.specs.declared.Fact.{Fact}
@@ -19,7 +19,8 @@ use Rattle.model.specs.declared.HeadPlace.{HeadPlace}
 use Rattle.model.specs.Table.{Head, Rule, heads}
 use Rattle.model.specs.Guards.{unbound}
 use Rattle.model.specs.Matching.{match_head}
-use Rattle.model.specs.Search.{same_id, is_among, Fired, fact_if, stored_fact, may_stand, no_head, search, from_active, with_active, first_instance}
+use Rattle.model.specs.declared.Fired.{Fired}
+use Rattle.model.specs.Search.{same_id, is_among, fact_if, stored_fact, may_stand, no_head, search, from_active, with_active, first_instance}
 use Rattle.model.proofs.Every.{every, every-weaken, every-both}
 use Rattle.model.proofs.Lists.{every-mem, or-both, or-false-left, or-false-right, OptionIs}
 use Rattle.model.proofs.Sound.{Differs, Distinct, ids_of, same-id, stored-is, stands-other, stands-anew}
@@ -31,25 +32,25 @@ use Rattle.semantics.proofs.Found.{Verdict, verdict-same, length-snoc, At, Fill,
 
 -- ---- lists
 
-pub index-mem : {A : Type 0} (l : List A) (n : ℕ) (x : A) → get_elem? l n ≡ some x → Memᴰ x l
-index-mem [] n x e = absurd (let w : ◌≡◌ {A = ℕ} 0 1 = cc in omega arith)
+pub index-mem : {A : Type 0} (l : List A) (n : ℕ) (x : A) → slice_get l n ≡ Some x → Memᴰ x l
+index-mem [] n x e = absurd cc
 index-mem (y ∷ l) zero x e = let q : x ≡ y = cc in Memᴰ.head q
 index-mem (y ∷ l) (suc n) x e = Memᴰ.tail (index-mem l n x e)
 
 -- the fact of an identifier at an index
-index-fact : (ss : List Stored) (n : ℕ) (i : FactId) → get_elem? (ids_of ss) n ≡ some i → (s : Stored) × (get_elem? ss n ≡ some s) × (s.id ≡ i)
-index-fact [] n i e = absurd (let w : ◌≡◌ {A = ℕ} 0 1 = cc in omega arith)
+index-fact : (ss : List Stored) (n : ℕ) (i : FactId) → slice_get (ids_of ss) n ≡ Some i → (s : Stored) × (slice_get ss n ≡ Some s) × (s.id ≡ i)
+index-fact [] n i e = absurd cc
 index-fact (s ∷ ss) zero i e = (s, refl, cc)
 index-fact (s ∷ ss) (suc n) i e = index-fact ss n i e
 
-index-id : (ss : List Stored) (n : ℕ) (s : Stored) → get_elem? ss n ≡ some s → get_elem? (ids_of ss) n ≡ some s.id
-index-id [] n s e = absurd (let w : ◌≡◌ {A = ℕ} 0 1 = cc in omega arith)
-index-id (x ∷ ss) zero s e = let q : x ≡ s = cc in ap (λ (y : Stored). some y.id) q
+index-id : (ss : List Stored) (n : ℕ) (s : Stored) → slice_get ss n ≡ Some s → slice_get (ids_of ss) n ≡ Some s.id
+index-id [] n s e = absurd cc
+index-id (x ∷ ss) zero s e = let q : x ≡ s = cc in ap (λ (y : Stored). Some y.id) q
 index-id (x ∷ ss) (suc n) s e = index-id ss n s e
 
-index-head : (θ : Binding) (hs : List Head) (ss : List Stored) (n : ℕ) (s : Stored) → HeadsAre θ hs ss → get_elem? ss n ≡ some s
+index-head : (θ : Binding) (hs : List Head) (ss : List Stored) (n : ℕ) (s : Stored) → HeadsAre θ hs ss → slice_get ss n ≡ Some s
     → HeadIs θ (get_or hs n no_head) s.fact
-index-head θ [] [] n s m e = absurd (let w : ◌≡◌ {A = ℕ} 0 1 = cc in omega arith)
+index-head θ [] [] n s m e = absurd cc
 index-head θ [] (x ∷ ss) n s m e = absurd m
 index-head θ (h ∷ hs) [] n s m e = absurd m
 index-head θ (h ∷ hs) (x ∷ ss) zero s m e = let q : x ≡ s = cc in subst (λ (y : Stored). HeadIs θ h y.fact) q m.0
@@ -70,14 +71,14 @@ same-stored lo hi (s ∷ ss) x y r m n e = go (Memᴰ.cases_cons m) (Memᴰ.case
     go (inr p) (inl q) ih = absurd (omega (arith, above (suc s.id.0) hi ss x r.1 p, ap (λ (z : Stored). z.id.0) q))
     go (inr p) (inr q) ih = ih p q e
 
-stored-some : (x : Stored) (i : FactId) (ss : List Stored) → Memᴰ x ss → x.id.0 ≡ i.0 → stored_fact i ss ≡ none → ⊥
+stored-some : (x : Stored) (i : FactId) (ss : List Stored) → Memᴰ x ss → x.id.0 ≡ i.0 → stored_fact i ss ≡ None → ⊥
 unfolding stored_fact
 stored-some x i [] m e n = Memᴰ.not-nil m
 stored-some x i (s ∷ ss) m e n = go (same_id s.id i) refl (Memᴰ.cases_cons m) n (λ m q. stored-some x i ss m e q)
   where
-    go : (b : Bool) → same_id s.id i ≡ b → (x ≡ s) ⊎ Memᴰ x ss → fact_if b s.fact (stored_fact i ss) ≡ none
-        → (Memᴰ x ss → stored_fact i ss ≡ none → ⊥) → ⊥
-    go true q c n ih = let w : ◌≡◌ {A = ℕ} 0 1 = cc in omega arith
+    go : (b : Bool) → same_id s.id i ≡ b → (x ≡ s) ⊎ Memᴰ x ss → fact_if b s.fact (stored_fact i ss) ≡ None
+        → (Memᴰ x ss → stored_fact i ss ≡ None → ⊥) → ⊥
+    go true q c n ih = cc
     go false q (inl c) n ih = eqb-false s.id.0 i.0 q (sym (ap (λ (z : Stored). z.id.0) c) ∙ e)
     go false q (inr c) n ih = ih c n
 
@@ -101,11 +102,11 @@ module _ (store : List Stored) (history : List Fired) (p : HeadPlace) (r : Rule)
   fill-heads (h ∷ hs) chosen (s ∷ ss) f = (f.0, fill-heads hs (chosen ++ (s.id ∷ [])) ss f.3)
 
   fill-here : (n : ℕ) (hs : List Head) (chosen : List FactId) (ss : List Stored) → n < length hs → length chosen + n ≡ p.head
-      → Fill store history p r own θ hs chosen ss → get_elem? ss n ≡ some own
+      → Fill store history p r own θ hs chosen ss → slice_get ss n ≡ Some own
   fill-here n [] chosen ss l e f = absurd (omega arith)
   fill-here n (h ∷ hs) chosen [] l e f = absurd f
   fill-here zero (h ∷ hs) chosen (s ∷ ss) l e f =
-      ap some (subst (λ (x : Bool). At store history p r own x chosen s) (eq-eqb (length chosen) p.head (omega arith)) f.2)
+      ap Some (subst (λ (x : Bool). At store history p r own x chosen s) (eq-eqb (length chosen) p.head (omega arith)) f.2)
   fill-here (suc n) (h ∷ hs) chosen (s ∷ ss) l e f = fill-here n hs (chosen ++ (s.id ∷ [])) ss (omega arith) (omega (arith, length-snoc chosen s.id)) f.3
 
   abbrev NotIn : List FactId → Stored → Type 0
@@ -159,7 +160,7 @@ module _ (store : List Stored) (history : List Fired) (p : HeadPlace) (r : Rule)
 
   instance-fill : (hs : List Head) (chosen : List FactId) (ss : List Stored) → HeadsAre θ hs ss → every (λ s. Memᴰ s store) ss → Distinct ss
       → every (NotIn chosen) ss
-      → ((n : ℕ) → length chosen + n ≡ p.head → get_elem? ss n ≡ some own) → (p.head < length chosen → is_among own.id chosen ≡ true)
+      → ((n : ℕ) → length chosen + n ≡ p.head → slice_get ss n ≡ Some own) → (p.head < length chosen → is_among own.id chosen ≡ true)
       → Fill store history p r own θ hs chosen ss
   instance-fill [] chosen [] m s d n here past = tt
   instance-fill [] chosen (x ∷ ss) m s d n here past = m
@@ -183,7 +184,7 @@ module _ (store : List Stored) (history : List Fired) (p : HeadPlace) (r : Rule)
 
       or-left : (a b : Bool) → a ≡ true → (a || b) ≡ true
       or-left true b e = refl
-      or-left false b e = absurd (let w : ◌≡◌ {A = ℕ} 0 1 = cc in omega arith)
+      or-left false b e = absurd cc
 
       first : length chosen ≡ p.head → x ≡ own
       first e = let q = here 0 (omega arith) in cc
@@ -199,15 +200,14 @@ module _ (store : List Stored) (history : List Fired) (p : HeadPlace) (r : Rule)
       other : (b : Bool) → ltb (length chosen) p.head ≡ b → (length chosen ≡ p.head → ⊥) → x.id.0 ≡ own.id.0 → ⊥
       other true e o q =
           let l = ltb-true (length chosen) p.head e in
-          let g : get_elem? ss (p.head - suc (length chosen)) ≡ some own = here (suc (p.head - suc (length chosen))) (omega arith) in
+          let g : slice_get ss (p.head - suc (length chosen)) ≡ Some own = here (suc (p.head - suc (length chosen))) (omega arith) in
           every-mem (Differs x) ss d.0 own (index-mem ss (p.head - suc (length chosen)) own g) q
       other false e o q =
           let l = past (omega (arith, ltb-false (length chosen) p.head e, o)) in
           let i : own.id ≡ x.id = same-id own.id x.id (eq-eqb own.id.0 x.id.0 (sym q)) in
           let f = ap (λ (z : FactId). is_among z chosen) i in
           let g = n.0 in
-          let w : ◌≡◌ {A = ℕ} 0 1 = cc in
-          omega arith
+          cc
 
       at : (b : Bool) → eqb (length chosen) p.head ≡ b → At store history p r own (eqb (length chosen) p.head) chosen x
       at true e = subst (λ (b : Bool). At store history p r own b chosen x) (sym e) (first (eqb-true (length chosen) p.head e))
@@ -221,17 +221,17 @@ module _ (store : List Stored) (history : List Fired) (p : HeadPlace) (r : Rule)
 module _ (store : List Stored) (history : List Fired) (p : HeadPlace) (r : Rule) (hi : ℕ) (rising : Rising 1 hi store)
     (inside : p.head < length (heads r)) where
   -- the active fact of an instance is the stored one of its identifier
-  instance-own : (own : Stored) → Memᴰ own store → (ss : List Stored) (θ : Binding) → Matching store p r own.id ss θ → get_elem? ss p.head ≡ some own
+  instance-own : (own : Stored) → Memᴰ own store → (ss : List Stored) (θ : Binding) → Matching store p r own.id ss θ → slice_get ss p.head ≡ Some own
   instance-own own mine ss θ c =
       let f = index-fact ss p.head own.id c.here in
-      f.1 ∙ ap some (same-stored 1 hi store f.0 own rising
+      f.1 ∙ ap Some (same-stored 1 hi store f.0 own rising
       (every-mem (λ s. Memᴰ s store) ss c.stored f.0 (index-mem ss p.head f.0 f.1)) mine (ap (λ (i : FactId). i.0) f.2))
 
   module _ (own : Stored) (mine : Memᴰ own store) (b : Binding) (u : Extends (λ η. HeadIs η (get_or (heads r) p.head no_head) own.fact) unbound b) where
     instance-way : (ss : List Stored) (θ : Binding) → Matching store p r own.id ss θ → Completion store history p r own (heads r) [] b ss θ
     unfolding is_among
     instance-way ss θ c =
-        let at : get_elem? ss p.head ≡ some own = instance-own own mine ss θ c in
+        let at : slice_get ss p.head ≡ Some own = instance-own own mine ss θ c in
         record {
           fill = instance-fill store history p r own θ (heads r) [] ss c.matched c.stored c.distinct (every-all ss)
               (λ n e. let q : n ≡ p.head = omega arith in rw q at) (λ l. absurd (omega arith));
@@ -246,7 +246,7 @@ module _ (store : List Stored) (history : List Fired) (p : HeadPlace) (r : Rule)
     way-instance : (ss : List Stored) (θ : Binding) → Completion store history p r own (heads r) [] b ss θ → Matching store p r own.id ss θ
     unfolding is_among
     way-instance ss θ c =
-        let at : get_elem? ss p.head ≡ some own = fill-here store history p r own θ p.head (heads r) [] ss inside (omega arith) c.fill in
+        let at : slice_get ss p.head ≡ Some own = fill-here store history p r own θ p.head (heads r) [] ss inside (omega arith) c.fill in
         record {
           stored = fill-stored store history p r own θ (heads r) [] ss c.fill;
           distinct = (fill-distinct store history p r own θ (heads r) [] ss (λ l. refl) c.fill).0;
@@ -256,7 +256,7 @@ module _ (store : List Stored) (history : List Fired) (p : HeadPlace) (r : Rule)
         }
 
   unbound-sized : Sized unbound
-  unbound-sized = record { values = refl; bound = refl }
+  unbound-sized = record { values = refl }
 
   -- what `first_instance` says is so of all instances for the active fact i at head place p
   pub first-verdict : (i : FactId) → Verdict history p r (Matching store p r i) [] (first_instance store history p r i)
@@ -266,19 +266,19 @@ module _ (store : List Stored) (history : List Fired) (p : HeadPlace) (r : Rule)
       matches : (f : Fact) → Memᴰ (record { id = i; fact = f }) store → (o : Option Binding)
           → Matched (λ η. HeadIs η (get_or (heads r) p.head no_head) f) unbound o
           → Verdict history p r (Matching store p r i) [] (from_active store history p r i o)
-      matches f m none u =
+      matches f m None u =
           λ ss θ c. absurd (u θ (unbound-part θ)
           (index-head θ (heads r) ss p.head (record { id = i; fact = f }) c.matched (instance-own (record { id = i; fact = f }) m ss θ c)))
-      matches f m (some b) u =
+      matches f m (Some b) u =
           let own : Stored = record { id = i; fact = f } in
           verdict-same history p r (Completion store history p r own (heads r) [] b) (Matching store p r i) (way-instance own m b u) (instance-way own m b u) []
           (search store history p r i (heads r) [] b) (search-verdict store history p r own m hi rising (heads r) [] b u.sized u.fits refl)
 
       go : (o : Option Fact) → stored_fact i store ≡ o → OptionIs (λ f. Memᴰ (record { id = i; fact = f }) store) o
           → Verdict history p r (Matching store p r i) [] (with_active store history p r i o)
-      go none e m = λ ss θ c.
+      go None e m = λ ss θ c.
           let f = index-fact ss p.head i c.here in
           absurd (stored-some f.0 i store (every-mem (λ s. Memᴰ s store) ss c.stored f.0 (index-mem ss p.head f.0 f.1))
           (ap (λ (j : FactId). j.0) f.2) e)
-      go (some f) e m =
+      go (Some f) e m =
           matches f m (match_head (get_or (heads r) p.head no_head) f unbound) (head-matched (get_or (heads r) p.head no_head) f unbound unbound-sized)

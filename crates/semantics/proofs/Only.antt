@@ -3,14 +3,13 @@
 -- by its facts, since the identifiers rise.
 use Prim.Native.Nat.{ℕ, suc, ◌≤◌}
 use native.Mathlib.Omega.{arith}
+use mathlib.Core.Bool.{true, false, Bool}
 use mathlib.Core.Path.{◌≡◌, refl, sym, ◌∙◌, ap, subst}
-use mathlib.Core.Option.{none, some}
+use Rattle.std.specs.Prelude.{Option, Some, None}
 use mathlib.Core.Logic.{◌⊎◌, inl, inr}
 use mathlib.Core.List.Memᴰ
 use mathlib.Core.List.{List, [], ◌∷◌, Memᴰ}
 use lib.ListN.{length}
-use Rattle.numbers.specs.declared.Truth.{Truth}
-use Rattle.numbers.specs.declared.Truth.TheVariants.{True, False, Undefined as Unknown}
 use Rattle.model.specs.declared.FactId.{FactId}
 use Rattle.model.specs.declared.Fact.{Fact}
 use Rattle.model.specs.declared.Item.{Item}
@@ -120,14 +119,14 @@ tries-same t a a' =
       under = tail-same e;
     }
 
-true-false : True ≡ False → ⊥
-true-false e = let w : ◌≡◌ {A = ℕ} 0 1 = cc in omega arith
+true-false : Some true ≡ Some false → ⊥
+true-false e = cc
 
-unknown-false : Unknown ≡ False → ⊥
-unknown-false e = let w : ◌≡◌ {A = ℕ} 0 1 = cc in omega arith
+unknown-false : None ≡ Some false → ⊥
+unknown-false e = cc
 
-true-unknown : True ≡ Unknown → ⊥
-true-unknown e = let w : ◌≡◌ {A = ℕ} 0 1 = cc in omega arith
+true-unknown : Some true ≡ None → ⊥
+true-unknown e = cc
 
 module _ (t : Table) (σ : State) where
   -- ---- a firing: what Simplify and Propagate share
@@ -137,13 +136,13 @@ module _ (t : Table) (σ : State) where
     facts : List Stored
     θ : Binding
     C : List Entry
-    first : First t σ tried True facts θ
+    first : First t σ tried (Some true) facts θ
     fires : Fires t σ.store τ.store tried.place facts θ C
     listed : Listed τ
     history : τ.history ≡ firing tried.place facts ∷ σ.history
     next : τ.next ≡ σ.next
 
-  abbrev simplify-shot : {τ : State} (s : Simplify t σ τ) → First t σ s.tried True s.facts s.θ → Listed τ → Shot τ
+  abbrev simplify-shot : {τ : State} (s : Simplify t σ τ) → First t σ s.tried (Some true) s.facts s.θ → Listed τ → Shot τ
   simplify-shot s u l = record {
     tried = s.tried;
     facts = s.facts;
@@ -156,7 +155,7 @@ module _ (t : Table) (σ : State) where
     next = s.next;
   }
 
-  abbrev propagate-shot : {τ : State} (s : Propagate t σ τ) → First t σ s.tried True s.facts s.θ → Listed τ → Shot τ
+  abbrev propagate-shot : {τ : State} (s : Propagate t σ τ) → First t σ s.tried (Some true) s.facts s.θ → Listed τ → Shot τ
   propagate-shot s u l = record {
     tried = s.tried;
     facts = s.facts;
@@ -174,15 +173,15 @@ module _ (t : Table) (σ : State) where
   shot (propagates s u l) = propagate-shot s u l
 
   module _ (l : Listed σ) (τ τ' : State) (x : Shot τ) (y : Shot τ') where
-    both-first : SameFirst True True x.facts y.facts x.θ y.θ
-    both-first = one-first t σ l x.tried y.tried True True x.facts y.facts x.θ y.θ x.first y.first true-false true-false
+    both-first : SameFirst (Some true) (Some true) x.facts y.facts x.θ y.θ
+    both-first = one-first t σ l x.tried y.tried (Some true) (Some true) x.facts y.facts x.θ y.θ x.first y.first true-false true-false
 
     place : x.tried.place ≡ y.tried.place
     place = same-place t x.tried y.tried
 
     C-same : x.C ≡ y.C
     C-same =
-        let e : some x.C ≡ some y.C
+        let e : Some x.C ≡ Some y.C
         = sym x.fires.body ∙ body-same x.θ y.θ both-first.part both-first.back (rule_tried t x.tried).body
         ∙ ap (λ (p : HeadPlace). body_entries y.θ (rule_at t p.rule).body) place ∙ y.fires.body in
         cc e
@@ -263,30 +262,30 @@ module _ (t : Table) (σ : State) where
 -- ---- one transition or ending
 
 -- an instance that is left, with guard g
-record Left (t : Table) (σ : State) (p : HeadPlace) (i : FactId) (facts : List Stored) (θ : Binding) (g : Truth) : Type 0 where
+record Left (t : Table) (σ : State) (p : HeadPlace) (i : FactId) (facts : List Stored) (θ : Binding) (g : Option Bool) : Type 0 where
   matching : Matching σ.store p (rule_at t p.rule) i facts θ
   fresh : Memᴰ (firing p facts) σ.history → ⊥
   guard : guard_value θ (rule_at t p.rule).guards ≡ g
 
 module _ (t : Table) (σ : State) where
   -- a first instance with guard g
-  record Tries (g : Truth) : Type 0 where
+  record Tries (g : Option Bool) : Type 0 where
     tried : Trying t σ.stack
     facts : List Stored
     θ : Binding
     first : First t σ tried g facts θ
 
-  undefined-tries : Undefined t σ → Tries Unknown
+  undefined-tries : Undefined t σ → Tries None
   undefined-tries u = record { tried = u.tried; facts = u.facts; θ = u.θ; first = u.first }
 
-  body-tries : NoBody t σ → Tries True
+  body-tries : NoBody t σ → Tries (Some true)
   body-tries u = record { tried = u.tried; facts = u.facts; θ = u.θ; first = u.first }
 
-  fires-tries : {τ : State} → FiresFirst t σ τ → Tries True
+  fires-tries : {τ : State} → FiresFirst t σ τ → Tries (Some true)
   fires-tries f = let s = shot t σ f in record { tried = s.tried; facts = s.facts; θ = s.θ; first = s.first }
 
   -- where one is, no step that is no firing is possible, and no fact waits
-  moves-not-tries : (g : Truth) → (g ≡ False → ⊥) → (τ : State) → Moves t σ τ → Tries g → ⊥
+  moves-not-tries : (g : Option Bool) → (g ≡ Some false → ⊥) → (τ : State) → Moves t σ τ → Tries g → ⊥
   moves-not-tries g n τ (activates s) x = omega (arith, waits-kind t σ s.step.c s.step.under s.step.top, tries-kind t σ x.tried)
   moves-not-tries g n τ (drops s) x = drop-not-tried t σ τ τ s x.tried
   moves-not-tries g n τ (defaults s) x =
@@ -295,7 +294,7 @@ module _ (t : Table) (σ : State) where
       (record { matching = x.first.matching; fresh = x.first.fresh; guard = x.first.guard }) in
       n (sym left.guard ∙ s.passed x.facts x.θ left.matching left.fresh)
 
-  full-not-tries : (g : Truth) → StoreFull t σ → Tries g → ⊥
+  full-not-tries : (g : Option Bool) → StoreFull t σ → Tries g → ⊥
   full-not-tries g u x = omega (arith, waits-kind t σ u.c u.under u.top, tries-kind t σ x.tried)
 
   full-not-moves : (τ : State) → StoreFull t σ → Moves t σ τ → ⊥
@@ -304,27 +303,26 @@ module _ (t : Table) (σ : State) where
   full-not-moves τ u (defaults s) = omega (arith, waits-kind t σ u.c u.under u.top, tries-kind t σ s.step.tried)
 
   stops-not-moves : (n p : ℕ) (τ : State) → Stops t σ n p → Moves t σ τ → ⊥
-  stops-not-moves n p τ (undefined u) s = moves-not-tries Unknown unknown-false τ s (undefined-tries u)
-  stops-not-moves n p τ (no_body u) s = moves-not-tries True true-false τ s (body-tries u)
+  stops-not-moves n p τ (undefined u) s = moves-not-tries None unknown-false τ s (undefined-tries u)
+  stops-not-moves n p τ (no_body u) s = moves-not-tries (Some true) true-false τ s (body-tries u)
   stops-not-moves n p τ (store_full u) s = full-not-moves τ u s
-  stops-not-moves n p τ (stack_above u) s = moves-not-tries True true-false τ s (fires-tries u.fires)
-  stops-not-moves n p τ (history_above u) s = moves-not-tries True true-false τ s (fires-tries u.fires)
+  stops-not-moves n p τ (stack_above u) s = moves-not-tries (Some true) true-false τ s (fires-tries u.fires)
+  stops-not-moves n p τ (history_above u) s = moves-not-tries (Some true) true-false τ s (fires-tries u.fires)
 
   module _ (l : Listed σ) where
-    undefined-not-true : Undefined t σ → Tries True → ⊥
+    undefined-not-true : Undefined t σ → Tries (Some true) → ⊥
     undefined-not-true u x =
-        true-unknown (sym (one-first t σ l u.tried x.tried Unknown True u.facts x.facts u.θ x.θ u.first x.first
+        true-unknown (sym (one-first t σ l u.tried x.tried None (Some true) u.facts x.facts u.θ x.θ u.first x.first
         unknown-false true-false).guard)
 
     body-not-fires : (τ : State) → NoBody t σ → FiresFirst t σ τ → ⊥
     body-not-fires τ u f =
         let s = shot t σ f in
-        let x = one-first t σ l u.tried s.tried True True u.facts s.facts u.θ s.θ u.first s.first true-false true-false in
-        let e : none ≡ some s.C
+        let x = one-first t σ l u.tried s.tried (Some true) (Some true) u.facts s.facts u.θ s.θ u.first s.first true-false true-false in
+        let e : None ≡ Some s.C
         = sym u.body ∙ body-same u.θ s.θ x.part x.back (rule_tried t u.tried).body
         ∙ ap (λ (p : HeadPlace). body_entries s.θ (rule_at t p.rule).body) (same-place t u.tried s.tried) ∙ s.fires.body in
-        let w : ◌≡◌ {A = ℕ} 0 1 = cc e in
-        omega arith
+        cc e
 
     stack-as-long : (τ τ' : State) → FiresFirst t σ τ → FiresFirst t σ τ' → length τ.stack ≡ length τ'.stack
     stack-as-long τ τ' f f' = ap (λ (x : State). length x.stack) (fires-one t σ l τ τ' f f')
@@ -336,7 +334,7 @@ module _ (t : Table) (σ : State) where
     stops-not-fires : (n p : ℕ) (τ : State) → Stops t σ n p → FiresFirst t σ τ → Roomy t τ → ⊥
     stops-not-fires n p τ (undefined u) f r = undefined-not-true u (fires-tries f)
     stops-not-fires n p τ (no_body u) f r = body-not-fires τ u f
-    stops-not-fires n p τ (store_full u) f r = full-not-tries True u (fires-tries f)
+    stops-not-fires n p τ (store_full u) f r = full-not-tries (Some true) u (fires-tries f)
     stops-not-fires n p τ (stack_above u) f r = omega (arith, u.above, r.stack, stack-as-long u.τ τ u.fires f)
     stops-not-fires n p τ (history_above u) f r = omega (arith, u.above, r.history, history-as-long u.τ τ u.fires f)
 
@@ -349,27 +347,27 @@ module _ (t : Table) (σ : State) where
     stops-one : (n p n' p' : ℕ) → Stops t σ n p → Stops t σ n' p' → Alike n p n' p'
     stops-one n p n' p' (undefined u) (undefined v) = (refl, ap (λ (z : HeadPlace). z.rule.0) (same-place t u.tried v.tried))
     stops-one n p n' p' (undefined u) (no_body v) = absurd (undefined-not-true u (body-tries v))
-    stops-one n p n' p' (undefined u) (store_full v) = absurd (full-not-tries Unknown v (undefined-tries u))
+    stops-one n p n' p' (undefined u) (store_full v) = absurd (full-not-tries None v (undefined-tries u))
     stops-one n p n' p' (undefined u) (stack_above v) = absurd (undefined-not-true u (fires-tries v.fires))
     stops-one n p n' p' (undefined u) (history_above v) = absurd (undefined-not-true u (fires-tries v.fires))
     stops-one n p n' p' (no_body u) (undefined v) = absurd (undefined-not-true v (body-tries u))
     stops-one n p n' p' (no_body u) (no_body v) = (refl, ap (λ (z : HeadPlace). z.rule.0) (same-place t u.tried v.tried))
-    stops-one n p n' p' (no_body u) (store_full v) = absurd (full-not-tries True v (body-tries u))
+    stops-one n p n' p' (no_body u) (store_full v) = absurd (full-not-tries (Some true) v (body-tries u))
     stops-one n p n' p' (no_body u) (stack_above v) = absurd (body-not-fires v.τ u v.fires)
     stops-one n p n' p' (no_body u) (history_above v) = absurd (body-not-fires v.τ u v.fires)
-    stops-one n p n' p' (store_full u) (undefined v) = absurd (full-not-tries Unknown u (undefined-tries v))
-    stops-one n p n' p' (store_full u) (no_body v) = absurd (full-not-tries True u (body-tries v))
+    stops-one n p n' p' (store_full u) (undefined v) = absurd (full-not-tries None u (undefined-tries v))
+    stops-one n p n' p' (store_full u) (no_body v) = absurd (full-not-tries (Some true) u (body-tries v))
     stops-one n p n' p' (store_full u) (store_full v) = (refl, refl)
-    stops-one n p n' p' (store_full u) (stack_above v) = absurd (full-not-tries True u (fires-tries v.fires))
-    stops-one n p n' p' (store_full u) (history_above v) = absurd (full-not-tries True u (fires-tries v.fires))
+    stops-one n p n' p' (store_full u) (stack_above v) = absurd (full-not-tries (Some true) u (fires-tries v.fires))
+    stops-one n p n' p' (store_full u) (history_above v) = absurd (full-not-tries (Some true) u (fires-tries v.fires))
     stops-one n p n' p' (stack_above u) (undefined v) = absurd (undefined-not-true v (fires-tries u.fires))
     stops-one n p n' p' (stack_above u) (no_body v) = absurd (body-not-fires u.τ v u.fires)
-    stops-one n p n' p' (stack_above u) (store_full v) = absurd (full-not-tries True v (fires-tries u.fires))
+    stops-one n p n' p' (stack_above u) (store_full v) = absurd (full-not-tries (Some true) v (fires-tries u.fires))
     stops-one n p n' p' (stack_above u) (stack_above v) = (refl, fires-rule t σ u.τ v.τ u.fires v.fires)
     stops-one n p n' p' (stack_above u) (history_above v) = absurd (two-above u v)
     stops-one n p n' p' (history_above u) (undefined v) = absurd (undefined-not-true v (fires-tries u.fires))
     stops-one n p n' p' (history_above u) (no_body v) = absurd (body-not-fires u.τ v u.fires)
-    stops-one n p n' p' (history_above u) (store_full v) = absurd (full-not-tries True v (fires-tries u.fires))
+    stops-one n p n' p' (history_above u) (store_full v) = absurd (full-not-tries (Some true) v (fires-tries u.fires))
     stops-one n p n' p' (history_above u) (stack_above v) = absurd (two-above v u)
     stops-one n p n' p' (history_above u) (history_above v) = (refl, fires-rule t σ u.τ v.τ u.fires v.fires)
 
@@ -422,9 +420,9 @@ module _ (t : Table) (σ : State) where
   one-turn l (moved τ s) (failed τ' s') = absurd (omega (arith, solve-kind t σ τ' s', moves-kind t σ τ s))
   one-turn l (moved τ s) (stopped n p s') = absurd (stops-not-moves n p τ s' s)
   one-turn l (moved τ s) (moved τ' s') = ap moves- (moves-one t σ τ τ' s s')
-  one-turn l (moved τ s) (fired τ' s' r) = absurd (moves-not-tries True true-false τ s (fires-tries s'))
+  one-turn l (moved τ s) (fired τ' s' r) = absurd (moves-not-tries (Some true) true-false τ s (fires-tries s'))
   one-turn l (fired τ s r) (ended e) = absurd (omega (arith, empty-kind e, fires-kind τ s))
   one-turn l (fired τ s r) (failed τ' s') = absurd (omega (arith, solve-kind t σ τ' s', fires-kind τ s))
   one-turn l (fired τ s r) (stopped n p s') = absurd (stops-not-fires l n p τ s' s r)
-  one-turn l (fired τ s r) (moved τ' s') = absurd (moves-not-tries True true-false τ' s' (fires-tries s))
+  one-turn l (fired τ s r) (moved τ' s') = absurd (moves-not-tries (Some true) true-false τ' s' (fires-tries s))
   one-turn l (fired τ s r) (fired τ' s' r') = ap fires- (fires-one t σ l τ τ' s s')

@@ -22,7 +22,7 @@ module _ (t : Table) where
 
   module _ (σ : State) (e : σ.stack ≡ []) where
     stack-empty : (x : Entry) (xs : List Entry) → σ.stack ≡ x ∷ xs → ⊥
-    stack-empty x xs q = let w : ◌≡◌ {A = ℕ} 0 1 = cc in omega arith
+    stack-empty x xs q = cc
 
     pub done-final : (κ : Config) → Step t (holds σ) κ → ⊥
     done-final κ (solve s) = stack-empty s.c _ s.top

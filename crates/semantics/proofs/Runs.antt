@@ -8,11 +8,11 @@ use lib.ListN.{length}
 use borrow.Author.Tests.{leb-true, leb-false}
 use Rattle.model.specs.declared.Fact.{Fact}
 use Rattle.model.specs.declared.RuleNumber.{RuleNumber}
-use Rattle.model.specs.declared.Verdict.TheVariants.{Good}
+use Rattle.std.specs.Prelude.{Ok}
 use Rattle.model.specs.Limits.{history_room}
 use Rattle.model.specs.Reading.{read_of}
 use Rattle.model.specs.Table.{Table, table_of}
-use Rattle.model.specs.Search.{Fired}
+use Rattle.model.specs.declared.Fired.{Fired}
 use Rattle.model.specs.Steps.{State, start, prunes, Outcome, moves as moves-, fires as fires-, fails as fails-, stops as stops-, step_item}
 use Rattle.model.specs.Results.{Counts, no_counts}
 use Rattle.model.specs.Run.{Ended, ended_as, stepped, fired_once, run_from, run}
@@ -111,7 +111,7 @@ module _ (t : Table) (few : FewHeads t) where
   run-failed goal limit z = let d = run-published goal limit in failed-is t goal (run t limit (start goal)) d z d.last refl
 
 -- a good table's rules have at most four heads
-pub good-few : (t : List ℕ) → (read_of t).verdict ≡ Good → FewHeads (table_of t)
+pub good-few : (t : List ℕ) → (read_of t).verdict ≡ Ok tt → FewHeads (table_of t)
 good-few t e = every-heads-few t (good-table t e)
 
 -- ---- from bytes: a call of a run that is not refused
@@ -125,7 +125,7 @@ pub record CallDerives (t g : List ℕ) (limit : ℕ) (buffer : List ℕ) (o : R
 pub call-derives : (t g : List ℕ) (limit : ℕ) (buffer : List ℕ) → (run_of t g limit buffer).result.number < 16
     → CallDerives t g limit buffer (run_of t g limit buffer)
 call-derives t g limit buffer =
-    run-cases (λ o. o.result.number < 16 → CallDerives t g limit buffer o) t g limit buffer (λ n p low high near l. absurd (omega (arith, low, l)))
+    run-cases (λ o. o.result.number < 16 → CallDerives t g limit buffer o) t g limit buffer (λ r low high near l. absurd (omega (arith, low, l)))
     (λ k l. record {
       ended = run (table_of t) limit (start (goal_of g));
       output = refl;

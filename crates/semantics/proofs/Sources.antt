@@ -5,11 +5,10 @@ use Prim.Native.Nat.{ℕ, ◌-◌, ◌<◌}
 use native.Mathlib.Omega.{arith}
 use mathlib.Core.Path.{◌≡◌, refl}
 use mathlib.Core.Bool.{Bool, true, false}
-use mathlib.Core.Option.{Option, none, some}
+use Rattle.std.specs.Prelude.{Option, Some, None, slice_get}
 use mathlib.Core.List.{List, []}
 use lib.Dec.{leb, ltb}
-use lib.ListN.{length, get_elem?}
-use Rattle.numbers.specs.declared.Truth.TheVariants.{True, Undefined as Unknown}
+use lib.ListN.{length}
 use Rattle.model.specs.declared.FactId.{FactId}
 use Rattle.model.specs.declared.RuleNumber.{RuleNumber}
 use Rattle.model.specs.declared.Fact.{Fact}
@@ -19,7 +18,8 @@ use Rattle.model.specs.declared.Entry.{Entry}
 use Rattle.model.specs.declared.Stored.{Stored}
 use Rattle.model.specs.declared.Binding.{Binding}
 use Rattle.model.specs.declared.HeadPlace.{HeadPlace}
-use Rattle.model.specs.declared.Verdict.TheVariants.{Good}
+use Rattle.std.specs.Prelude.{Ok}
+use Rattle.model.specs.Refusals.{number_of}
 use Rattle.model.specs.Limits.{store_room, stack_room}
 use Rattle.model.specs.Reading.{read_of}
 use Rattle.model.specs.Table.{Rule, Table, heads, table_of, rule_at, places}
@@ -45,13 +45,13 @@ use Rattle.semantics.proofs.Bound.{guard-cause, body-cause}
 
 -- ---- over the chosen relation: the first instance that is left
 
-module _ (t : List ℕ) (good : (read_of t).verdict ≡ Good) (σ : State) (a : Trying (table_of t) σ.stack) (facts : List Stored) (θ : Binding) where
+module _ (t : List ℕ) (good : (read_of t).verdict ≡ Ok tt) (σ : State) (a : Trying (table_of t) σ.stack) (facts : List Stored) (θ : Binding) where
   -- where the run stops with 3
-  pub first-guard-cause : First (table_of t) σ a Unknown facts θ → GuardLacks θ (rule_tried (table_of t) a).guards
+  pub first-guard-cause : First (table_of t) σ a None facts θ → GuardLacks θ (rule_tried (table_of t) a).guards
   first-guard-cause f = guard-cause t good a.place facts θ σ.store a.id f.matching f.guard
 
   -- where it stops with 4
-  pub first-body-cause : First (table_of t) σ a True facts θ → body_entries θ (rule_tried (table_of t) a).body ≡ none
+  pub first-body-cause : First (table_of t) σ a (Some true) facts θ → body_entries θ (rule_tried (table_of t) a).body ≡ None
       → BodyLacks θ (rule_tried (table_of t) a).body
   first-body-cause f e = body-cause t good a.place facts θ σ.store a.id f.matching e
 
@@ -72,7 +72,7 @@ Caused t st (fires next) = Rises next
 Caused t st fails = Unit {0}
 Caused t st (stops n p) = Causes t st.store n p
 
-module _ (t : List ℕ) (good : (read_of t).verdict ≡ Good) where
+module _ (t : List ℕ) (good : (read_of t).verdict ≡ Ok tt) where
   abbrev T : Table
   T = table_of t
 
@@ -117,7 +117,7 @@ module _ (t : List ℕ) (good : (read_of t).verdict ≡ Good) where
       found-caused (applies chosen b) v = go (body_entries b r.body) refl
         where
           go : (c : Option (List Entry)) → body_entries b r.body ≡ c → Caused T st (with_body m T st e es p chosen c)
-          go none q = record {
+          go None q = record {
             three = λ (n : ◌≡◌ {A = ℕ} 4 3). absurd (omega arith);
             four = λ n. record {
               head = p;
@@ -130,14 +130,14 @@ module _ (t : List ℕ) (good : (read_of t).verdict ≡ Good) where
               cause = body-cause t good p v.0 b st.store i v.1.way q;
             };
           }
-          go (some body) q =
+          go (Some body) q =
               let s : State = fired m st e es p r chosen body in
               stack-caused (leb (length s.stack) stack_room) p.rule s (fired-rises p chosen body)
 
-    place-caused : (i : FactId) (j : ℕ) (o : Option HeadPlace) → get_elem? (places T e.symbol) (j - 1) ≡ o → Caused T st (at_place m T st e es i j o)
+    place-caused : (i : FactId) (j : ℕ) (o : Option HeadPlace) → slice_get (places T e.symbol) (j - 1) ≡ o → Caused T st (at_place m T st e es i j o)
     unfolding dropped
-    place-caused i j none q = rises
-    place-caused i j (some p) q =
+    place-caused i j None q = rises
+    place-caused i j (Some p) q =
         let ps : List HeadPlace = places T e.symbol in
         let inside = (every-mem (PlaceIn T e.symbol) ps (places-in T e.symbol) p (index-mem ps (j - 1) p q)).head_in in
         found-caused i j p inside (first_instance st.store st.history p (rule_at T p.rule) i)
@@ -147,7 +147,7 @@ module _ (t : List ℕ) (good : (read_of t).verdict ≡ Good) where
     pub step-caused : (it : Item) → Caused T st (step_with m T st e es it)
     unfolding step_with
     step-caused (Waiting f) = activate-caused f (ltb (length st.store) store_room)
-    step-caused (Active i j) = place-caused i j.0 (get_elem? (places T e.symbol) (j.0 - 1)) refl
+    step-caused (Active i j) = place-caused i j.0 (slice_get (places T e.symbol) (j.0 - 1)) refl
     step-caused Fail = tt
 
   -- ---- the run
@@ -185,5 +185,5 @@ unfolding output_of
 call-caused t g limit buffer =
     let stored : List Stored = (run (table_of t) limit (start (goal_of g))).store in
     run-cases (λ (o : RunOutput). Causes (table_of t) stored o.result.number o.result.place) t g limit buffer
-    (λ n p low high near. other-causes (table_of t) stored n p (λ q. omega (arith, low, q)) (λ q. omega (arith, low, q)))
+    (λ r low high near. other-causes (table_of t) stored (number_of r.reason) r.place (λ q. omega (arith, low, q)) (λ q. omega (arith, low, q)))
     (λ k. run-caused t k.table (goal_of g) limit)

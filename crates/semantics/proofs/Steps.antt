@@ -6,14 +6,12 @@ use Prim.Native.Nat.{ℕ, ◌-◌, ◌≤◌, ◌<◌}
 use native.Mathlib.Omega.{arith}
 use mathlib.Core.Path.{◌≡◌, refl, sym, ◌∙◌, ap, subst}
 use mathlib.Core.Bool.{Bool, true, false}
-use mathlib.Core.Option.{Option, none, some}
+use Rattle.std.specs.Prelude.{Option, Some, None, slice_get}
 use mathlib.Core.Logic.{◌⊎◌, inl, inr}
 use mathlib.Core.List.{List, [], ◌∷◌, ◌++◌, map, Memᴰ}
 use lib.Dec.{leb, ltb}
-use lib.ListN.{length, drop, get_elem?}
+use lib.ListN.{length, drop}
 use borrow.Author.Tests.{leb-true, leb-false, ltb-true, ltb-false}
-use Rattle.numbers.specs.declared.Truth.{Truth}
-use Rattle.numbers.specs.declared.Truth.TheVariants.{True, False, Undefined as Unknown}
 use Rattle.model.specs.declared.FactId.{FactId}
 use Rattle.model.specs.declared.Symbol.{Symbol}
 use Rattle.model.specs.declared.RuleNumber.{RuleNumber}
@@ -28,7 +26,8 @@ use Rattle.model.specs.declared.HeadPlace.{HeadPlace}
 use Rattle.model.specs.Limits.{most_heads, store_room, stack_room}
 use Rattle.model.specs.Table.{Rule, Table, heads, rule_at, places}
 use Rattle.model.specs.Guards.{guard_value}
-use Rattle.model.specs.Search.{Fired, fired_of, in_history, Found, nothing, undefined_guard, applies, first_instance}
+use Rattle.model.specs.declared.Fired.{Fired}
+use Rattle.model.specs.Search.{fired_of, in_history, Found, nothing, undefined_guard, applies, first_instance}
 use Rattle.model.specs.Steps.{State, waiting, start, active_entry, body_entries, gone, without, Memory, prunes, activated, advanced, dropped, pop_if}
 use Rattle.model.specs.Steps.{is_removed, fired, Outcome, moves, fires, fails, stops, within_history, within_stack, with_body, with_found, at_place}
 use Rattle.model.specs.Steps.{activate, step_with, step_item}
@@ -167,7 +166,7 @@ module _ (t : Table) (few : FewHeads t) (st : State) (T : List Fired) (k : Follo
 
   module _ (i : FactId) (j : ℕ) (top : st.stack ≡ active_entry e.symbol i j ∷ es) (given : i.0 < st.next) where
     -- Drop
-    drop-taken : (K : Knows) (m : Memory) → Recalls K m → get_elem? (places t e.symbol) (j - 1) ≡ none → Taken t K st T m (moves (dropped st es))
+    drop-taken : (K : Knows) (m : Memory) → Recalls K m → slice_get (places t e.symbol) (j - 1) ≡ None → Taken t K st T m (moves (dropped st es))
     unfolding dropped
     drop-taken K m r o = (
       T,
@@ -176,7 +175,7 @@ module _ (t : Table) (few : FewHeads t) (st : State) (T : List Fired) (k : Follo
       drops (record { symbol = e.symbol; id = i; j = j; top = top; absent = o; store = refl; history = refl; next = refl }),
     )
 
-    module _ (p : HeadPlace) (o : get_elem? (places t e.symbol) (j - 1) ≡ some p) where
+    module _ (p : HeadPlace) (o : slice_get (places t e.symbol) (j - 1) ≡ Some p) where
       abbrev r : Rule
       r = rule_at t p.rule
 
@@ -204,10 +203,10 @@ module _ (t : Table) (few : FewHeads t) (st : State) (T : List Fired) (k : Follo
 
       unknown-there : (facts : List Stored) (θ : Binding) → Way facts θ → in_history (fired_of p.rule (ids_of facts)) st.history ≡ false
           → Memᴰ (firing p facts) T → ⊥
-      unknown-there facts θ m h n = let g = known-here t st T k p i facts θ m n in let w : ◌≡◌ {A = ℕ} 0 1 = cc in omega arith
+      unknown-there facts θ m h n = let g = known-here t st T k p i facts θ m n in cc
 
       -- what the search picks is the first
-      picked-first : (g : Truth) (facts : List Stored) (θ : Binding) → Picked st.history p r Way [] g facts θ → First t (seen st T) tried g facts θ
+      picked-first : (g : Option Bool) (facts : List Stored) (θ : Binding) → Picked st.history p r Way [] g facts θ → First t (seen st T) tried g facts θ
       picked-first g facts θ u = record {
         matching = u.way;
         fresh = unknown-there facts θ u.way u.fresh;
@@ -220,15 +219,14 @@ module _ (t : Table) (few : FewHeads t) (st : State) (T : List Fired) (k : Follo
       verdict = first-verdict st.store st.history p r st.next k.rising inside i
 
       all-passed : Verdict st.history p r Way [] nothing → (facts : List Stored) (θ : Binding) → Way facts θ → (Memᴰ (firing p facts) T → ⊥)
-          → guard_value θ r.guards ≡ False
+          → guard_value θ r.guards ≡ Some false
       all-passed u facts θ m n = u facts θ m (unknown-here facts θ m n)
 
       none-applies : Verdict st.history p r Way [] nothing → (facts : List Stored) (θ : Binding) → Applies t st.store T p i facts θ → ⊥
       none-applies u facts θ a =
           let f = all-passed u facts θ a.enabled.matching a.fresh in
           let g = a.enabled.guard in
-          let w : ◌≡◌ {A = ℕ} 0 1 = cc in
-          omega arith
+          cc
 
       -- where the definition takes Default, no instance applies
       pub default-none : first_instance st.store st.history p r i ≡ nothing → (facts : List Stored) (θ : Binding) → Applies t st.store T p i facts θ → ⊥
@@ -236,7 +234,7 @@ module _ (t : Table) (few : FewHeads t) (st : State) (T : List Fired) (k : Follo
 
       -- where it stops with 3, the first instance that is left has a guard with no value
       unfoldable left-undefined : Verdict st.history p r Way [] undefined_guard → Undefined t (seen st T)
-      left-undefined u = record { tried = tried; facts = u.0; θ = u.1; first = picked-first Unknown u.0 u.1 u.2 }
+      left-undefined u = record { tried = tried; facts = u.0; θ = u.1; first = picked-first None u.0 u.1 u.2 }
 
       pub stopped-first : first_instance st.store st.history p r i ≡ undefined_guard → Undefined t (seen st T)
       stopped-first e = left-undefined (subst (Verdict st.history p r Way []) e verdict)
@@ -255,13 +253,13 @@ module _ (t : Table) (few : FewHeads t) (st : State) (T : List Fired) (k : Follo
       )
 
       -- Simplify and Propagate
-      module _ (facts : List Stored) (b : Binding) (u : Picked st.history p r Way [] True facts b) (C : List Entry)
-          (body : body_entries b r.body ≡ some C) where
+      module _ (facts : List Stored) (b : Binding) (u : Picked st.history p r Way [] (Some true) facts b) (C : List Entry)
+          (body : body_entries b r.body ≡ Some C) where
         C-entries : every (EntryIs st.next) C
         C-entries = subst (OptionIs (every (EntryIs st.next))) body (body-entries st.next b r.body)
 
-        first : First t (seen st T) tried True facts b
-        first = picked-first True facts b u
+        first : First t (seen st T) tried (Some true) facts b
+        first = picked-first (Some true) facts b u
 
         applied : Applies t st.store T p i facts b
         applied = record { enabled = record { matching = u.way; guard = u.guard }; fresh = first.fresh }
@@ -326,8 +324,8 @@ module _ (t : Table) (few : FewHeads t) (st : State) (T : List Fired) (k : Follo
       -- with a history that accounts for the firing
       module _ (K : Knows) (m : Memory) (recalls : Recalls K m) where
         -- the definition takes the identifiers of the removed heads from those of all heads
-        fired-taken : (facts : List Stored) (b : Binding) → Picked st.history p r Way [] True facts b → (C : List Entry)
-            → body_entries b r.body ≡ some C → FiredTo t K st T (fired m st e es p r (ids_of facts) C) p.rule
+        fired-taken : (facts : List Stored) (b : Binding) → Picked st.history p r Way [] (Some true) facts b → (C : List Entry)
+            → body_entries b r.body ≡ Some C → FiredTo t K st T (fired m st e es p r (ids_of facts) C) p.rule
         unfolding fired gone
         fired-taken facts b u C h =
             let f : Fired = fired_of p.rule (ids_of facts) in
@@ -356,11 +354,11 @@ module _ (t : Table) (few : FewHeads t) (st : State) (T : List Fired) (k : Follo
             = record { τ = seen s u.T'; fires = u.fires; above = leb-false (length s.stack) stack_room e } in
             subst (λ (x : RuleNumber). Stopped t K st T m 6 x.0) u.ruled (stopped (stack_above a))
 
-        body-taken : (facts : List Stored) (b : Binding) → Picked st.history p r Way [] True facts b → (c : Option (List Entry))
+        body-taken : (facts : List Stored) (b : Binding) → Picked st.history p r Way [] (Some true) facts b → (c : Option (List Entry))
             → body_entries b r.body ≡ c → Taken t K st T m (with_body m t st e es p (ids_of facts) c)
-        body-taken facts b u none h =
-            stopped (no_body (record { tried = tried; facts = facts; θ = b; first = picked-first True facts b u; body = h }))
-        body-taken facts b u (some C) h =
+        body-taken facts b u None h =
+            stopped (no_body (record { tried = tried; facts = facts; θ = b; first = picked-first (Some true) facts b u; body = h }))
+        body-taken facts b u (Some C) h =
             let s : State = fired m st e es p r (ids_of facts) C in
             within-stack (leb (length s.stack) stack_room) p.rule s (fired-taken facts b u C h) refl
 
@@ -372,10 +370,10 @@ module _ (t : Table) (few : FewHeads t) (st : State) (T : List Fired) (k : Follo
             subst (λ (is : List FactId). Taken t K st T m (with_body m t st e es p is (body_entries b r.body))) (sym u.2)
             (body-taken u.0 b u.1 (body_entries b r.body) refl)
 
-    place-taken : (K : Knows) (m : Memory) → Recalls K m → (o : Option HeadPlace) → get_elem? (places t e.symbol) (j - 1) ≡ o
+    place-taken : (K : Knows) (m : Memory) → Recalls K m → (o : Option HeadPlace) → slice_get (places t e.symbol) (j - 1) ≡ o
         → Taken t K st T m (at_place m t st e es i j o)
-    place-taken K m w none o = drop-taken K m w o
-    place-taken K m w (some p) o = found-taken p o K m w (first_instance st.store st.history p (rule_at t p.rule) i) (verdict p o)
+    place-taken K m w None o = drop-taken K m w o
+    place-taken K m w (Some p) o = found-taken p o K m w (first_instance st.store st.history p (rule_at t p.rule) i) (verdict p o)
 
   -- ---- the top entry decides
 
@@ -396,7 +394,7 @@ module _ (t : Table) (few : FewHeads t) (st : State) (T : List Fired) (k : Follo
   unfolding step_with
   item-taken K m r (Waiting f) w = activate-taken K m r f w (ltb (length st.store) store_room) refl
   item-taken K m r (Active i j) w =
-      place-taken i j.0 (active-top i j w) (active-given i j w) K m r (get_elem? (places t e.symbol) (j.0 - 1)) refl
+      place-taken i j.0 (active-top i j w) (active-given i j w) K m r (slice_get (places t e.symbol) (j.0 - 1)) refl
   item-taken K m r Fail w = fail-taken w
 
   pub step-taken : (it : Item) → e.item ≡ it → Taken t Anything st T prunes (step_item t st e es it)

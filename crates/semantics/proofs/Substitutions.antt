@@ -2,15 +2,14 @@
 -- others; so a guard all of whose variables stand in heads, as in a good table, has the same value under each of them. An instance could as well be
 -- said with any substitution.
 use Prim.Native.Nat.{ℕ}
+use mathlib.Core.Bool.{true}
 use mathlib.Core.Path.{◌≡◌, refl, sym, ◌∙◌, subst}
-use mathlib.Core.Option.{Option, none, some}
+use Rattle.std.specs.Prelude.{Option, Some, None, slice_get}
 use mathlib.Core.Logic.{◌⊎◌, inl, inr}
 use mathlib.Core.List.Memᴰ
 use mathlib.Core.List.{List, [], ◌∷◌, Memᴰ}
 use lib.IntN.{ℤ}
-use lib.ListN.{length, take, get_elem?}
-use Rattle.numbers.specs.declared.Value.TheVariants.{Number}
-use Rattle.numbers.specs.declared.Truth.TheVariants.{True}
+use lib.ListN.{length, take}
 use Rattle.model.specs.declared.FactId.{FactId}
 use Rattle.model.specs.declared.Stored.{Stored}
 use Rattle.model.specs.declared.Binding.{Binding}
@@ -40,8 +39,8 @@ heads-least (h ∷ hs) (s ∷ ss) b η k p m = go (match_head h s.fact b) (head-
     go : (o : Option Binding) → Matched (λ θ. HeadIs θ h s.fact) b o
         → ((c : Binding) → Sized c → PartOf c η → (d : Binding) × Extends (λ θ. HeadsAre θ hs ss) c d)
         → (d : Binding) × Extends (λ θ. HeadsAre θ (h ∷ hs) (s ∷ ss)) b d
-    go none u ih = absurd (u η p m.0)
-    go (some c) u ih =
+    go None u ih = absurd (u η p m.0)
+    go (Some c) u ih =
         let d = ih c u.sized (u.least η p m.0) in (
           d.0,
           record {
@@ -54,31 +53,31 @@ heads-least (h ∷ hs) (s ∷ ss) b η k p m = go (match_head h s.fact b) (head-
 
 pub least-matching : (store : List Stored) (p : HeadPlace) (r : Rule) (i : FactId) (facts : List Stored) (η : Binding)
     → every (λ s. Memᴰ s store) facts → Distinct facts
-    → HeadsAre η (heads r) facts → get_elem? (ids_of facts) p.head ≡ some i → (θ : Binding) × Matching store p r i facts θ
+    → HeadsAre η (heads r) facts → slice_get (ids_of facts) p.head ≡ Some i → (θ : Binding) × Matching store p r i facts θ
 least-matching store p r i facts η s d m h =
-    let c = heads-least (heads r) facts unbound η (record { values = refl; bound = refl }) (unbound-part η) m in
+    let c = heads-least (heads r) facts unbound η (record { values = refl }) (unbound-part η) m in
     (c.0, record { stored = s; distinct = d; matched = c.1.fits; least = λ θ n. c.1.least θ (unbound-part θ) n; here = h })
 
 -- ---- a variable that stands in a head has a value
 
 slots-value : (θ : Binding) (v : ℕ) (ss : List Slot) (zs : List ℤ) → SlotsAre θ ss zs → Memᴰ (Variable v) (take (length zs) ss)
-    → (z : ℤ) × (variable_value θ v ≡ Number z)
+    → (z : ℤ) × (variable_value θ v ≡ Some z)
 slots-value θ v [] [] u m = absurd (Memᴰ.not-nil m)
 slots-value θ v [] (z ∷ zs) u m = absurd (Memᴰ.not-nil m)
 slots-value θ v (s ∷ ss) [] u m = absurd (Memᴰ.not-nil m)
 slots-value θ v (s ∷ ss) (z ∷ zs) u m = go (Memᴰ.cases_cons m) (λ m. slots-value θ v ss zs u.1 m)
   where
     go : (Variable v ≡ s) ⊎ Memᴰ (Variable v) (take (length zs) ss)
-        → (Memᴰ (Variable v) (take (length zs) ss) → (y : ℤ) × (variable_value θ v ≡ Number y)) → (y : ℤ) × (variable_value θ v ≡ Number y)
+        → (Memᴰ (Variable v) (take (length zs) ss) → (y : ℤ) × (variable_value θ v ≡ Some y)) → (y : ℤ) × (variable_value θ v ≡ Some y)
     go (inl e) ih = (z, subst (λ (x : Slot). SlotIs θ x z) (sym e) u.0)
     go (inr m) ih = ih m
 
-pub stands-value : (θ : Binding) (v : ℕ) (hs : List Head) (ss : List Stored) → HeadsAre θ hs ss → Stands hs v → (z : ℤ) × (variable_value θ v ≡ Number z)
+pub stands-value : (θ : Binding) (v : ℕ) (hs : List Head) (ss : List Stored) → HeadsAre θ hs ss → Stands hs v → (z : ℤ) × (variable_value θ v ≡ Some z)
 stands-value θ v [] ss u m = absurd (Memᴰ.not-nil m.1)
 stands-value θ v (h ∷ hs) [] u m = absurd u
 stands-value θ v (h ∷ hs) (s ∷ ss) u m = go (Memᴰ.cases_cons m.1) (λ n. stands-value θ v hs ss u.1 (m.0, n, m.2))
   where
-    go : (m.0 ≡ h) ⊎ Memᴰ m.0 hs → (Memᴰ m.0 hs → (z : ℤ) × (variable_value θ v ≡ Number z)) → (z : ℤ) × (variable_value θ v ≡ Number z)
+    go : (m.0 ≡ h) ⊎ Memᴰ m.0 hs → (Memᴰ m.0 hs → (z : ℤ) × (variable_value θ v ≡ Some z)) → (z : ℤ) × (variable_value θ v ≡ Some z)
     go (inl e) ih = slots-value θ v h.slots (arguments s.fact) u.0.slots (subst (λ (x : Head). Memᴰ (Variable v) (take 4 x.slots)) e m.2)
     go (inr n) ih = ih n
 
@@ -105,8 +104,8 @@ module _ (hs : List Head) (ss : List Stored) (θ η : Binding) (m : HeadsAre θ 
 
 -- facts that any substitution makes equal to the heads, with a guard that is true under it, are an instance with a true guard
 pub enabled-by-any : (t : Table) (S : List Stored) (p : HeadPlace) (i : FactId) (facts : List Stored) (η : Binding) → Covered (rule_at t p.rule)
-    → every (λ s. Memᴰ s S) facts → Distinct facts → HeadsAre η (heads (rule_at t p.rule)) facts → get_elem? (ids_of facts) p.head ≡ some i
-    → guard_value η (rule_at t p.rule).guards ≡ True → (θ : Binding) × Enabled t S p i facts θ
+    → every (λ s. Memᴰ s S) facts → Distinct facts → HeadsAre η (heads (rule_at t p.rule)) facts → slice_get (ids_of facts) p.head ≡ Some i
+    → guard_value η (rule_at t p.rule).guards ≡ Some true → (θ : Binding) × Enabled t S p i facts θ
 enabled-by-any t S p i facts η c s d m h g =
     let r : Rule = rule_at t p.rule in
     let l = least-matching S p r i facts η s d m h in

@@ -1,10 +1,8 @@
 -- The choices that document 01 makes where the published relation leaves one: which instance fires, in which order the store is listed, what its
 -- history holds, and where a run ends, with which number and place. So each state has one transition or one ending.
 use Rattle.std.specs.Prelude.{ℕ, suc, ◌≤◌, ◌<◌, ◌≡◌, Bool, true, false, ◌&&◌, length}
-use Rattle.std.proofs.Math.Option.{none}
+use Rattle.std.specs.Prelude.{Option, Some, None}
 use mathlib.Core.List.{List, [], ◌∷◌, Memᴰ}
-use Rattle.numbers.specs.declared.Truth.{Truth}
-use Rattle.numbers.specs.declared.Truth.TheVariants.{True, False, Undefined as Unknown}
 use Rattle.model.specs.declared.FactId.{FactId}
 use Rattle.model.specs.declared.RuleNumber.{RuleNumber}
 use Rattle.model.specs.declared.Fact.{Fact}
@@ -14,7 +12,8 @@ use Rattle.model.specs.declared.Binding.{Binding}
 use Rattle.model.specs.Limits.{store_room, stack_room, history_room}
 use Rattle.model.specs.Table.{Head, Table, rule_at}
 use Rattle.model.specs.Guards.{guard_value}
-use Rattle.model.specs.Search.{Fired, is_among}
+use Rattle.model.specs.declared.Fired.{Fired}
+use Rattle.model.specs.Search.{is_among}
 use Rattle.model.specs.Steps.{State, waiting, body_entries, keep}
 use Rattle.model.specs.Results.{Counts}
 use Rattle.model.specs.Run.{Ended, ended_as, stepped, fired_once}
@@ -49,19 +48,19 @@ module _ (t : Table) where
 
   -- "An instance in the history is passed over; the first remaining one with a true guard applies; an undefined guard met before it stops the run":
   -- an instance that is not in the history and whose guard is g; each that comes before it is in the history or has a false guard
-  pub record First (σ : State) (a : Trying t σ.stack) (g : Truth) (facts : List Stored) (θ : Binding) : Type 0 where
+  pub record First (σ : State) (a : Trying t σ.stack) (g : Option Bool) (facts : List Stored) (θ : Binding) : Type 0 where
     pub matching : Matching σ.store a.place (rule_tried t a) a.id facts θ
     pub fresh : Memᴰ (firing a.place facts) σ.history → ⊥
     pub guard : guard_value θ (rule_tried t a).guards ≡ g
     pub before : (facts' : List Stored) (θ' : Binding) → Matching σ.store a.place (rule_tried t a) a.id facts' θ' → Before (ids_of facts') (ids_of facts)
-        → (Memᴰ (firing a.place facts') σ.history → ⊥) → guard_value θ' (rule_tried t a).guards ≡ False
+        → (Memᴰ (firing a.place facts') σ.history → ⊥) → guard_value θ' (rule_tried t a).guards ≡ Some false
 
   -- "Default: occurrence j exists, with no applicable instance", and none whose guard is undefined: each instance that is not in the history has a
   -- guard that has a value, and it is false
   pub record Passes (σ τ : State) : Type 0 where
     pub step : Default t σ τ
     pub passed : (facts : List Stored) (θ : Binding) → Matching σ.store step.tried.place (rule_tried t step.tried) step.tried.id facts θ
-        → (Memᴰ (firing step.tried.place facts) σ.history → ⊥) → guard_value θ (rule_tried t step.tried).guards ≡ False
+        → (Memᴰ (firing step.tried.place facts) σ.history → ⊥) → guard_value θ (rule_tried t step.tried).guards ≡ Some false
 
   -- "Activate: a waiting fact gets the next identifier, enters the store", if there is room
   pub record Enters (σ τ : State) : Type 0 where
@@ -77,8 +76,8 @@ module _ (t : Table) where
 
   -- a firing of the first instance; whether there is room for it is asked below
   pub data FiresFirst (σ τ : State) : Type 0 where
-    simplifies : (s : Simplify t σ τ) → First σ s.tried True s.facts s.θ → Listed τ → FiresFirst σ τ
-    propagates : (s : Propagate t σ τ) → First σ s.tried True s.facts s.θ → Listed τ → FiresFirst σ τ
+    simplifies : (s : Simplify t σ τ) → First σ s.tried (Some true) s.facts s.θ → Listed τ → FiresFirst σ τ
+    propagates : (s : Propagate t σ τ) → First σ s.tried (Some true) s.facts s.θ → Listed τ → FiresFirst σ τ
 
   -- its rule
   abbrev pub rule_fired : {σ τ : State} → FiresFirst σ τ → RuleNumber
@@ -97,15 +96,15 @@ module _ (t : Table) where
     pub tried : Trying t σ.stack
     pub facts : List Stored
     pub θ : Binding
-    pub first : First σ tried Unknown facts θ
+    pub first : First σ tried None facts θ
 
   -- 4: "body argument undefined"
   pub record NoBody (σ : State) : Type 0 where
     pub tried : Trying t σ.stack
     pub facts : List Stored
     pub θ : Binding
-    pub first : First σ tried True facts θ
-    pub body : body_entries θ (rule_tried t tried).body ≡ none
+    pub first : First σ tried (Some true) facts θ
+    pub body : body_entries θ (rule_tried t tried).body ≡ None
 
   -- 5: "Activate with 128 facts stored"
   pub record StoreFull (σ : State) : Type 0 where

@@ -1,10 +1,8 @@
 -- An instance of a rule, said by what it is and not by how it is found: the conditions on θ and on the facts that Simplify and Propagate have in
 -- common (document 004, appendix A, definition 2). Nothing here speaks of the search or of its order.
 use Rattle.std.specs.Prelude.{ℕ, ◌<◌, ◌≡◌, ◌⊎◌, ℤ}
-use Rattle.std.proofs.Math.Option.{some}
+use Rattle.std.specs.Prelude.{Some, slice_get}
 use mathlib.Core.List.{List, [], ◌∷◌, Memᴰ}
-use Rattle.std.proofs.Math.ListN.{get_elem?}
-use Rattle.numbers.specs.declared.Value.TheVariants.{Number}
 use Rattle.model.specs.declared.FactId.{FactId}
 use Rattle.model.specs.declared.Fact.{Fact}
 use Rattle.model.specs.declared.Stored.{Stored}
@@ -15,7 +13,7 @@ use Rattle.model.specs.declared.Slot.TheVariants.{Unused, Constant, Variable, Ba
 use Rattle.model.specs.Table.{Head, Rule, heads}
 use Rattle.model.specs.Guards.{variable_value}
 use Rattle.model.specs.Matching.{arguments}
-use Rattle.model.specs.Search.{Fired}
+use Rattle.model.specs.declared.Fired.{Fired}
 use Rattle.model.proofs.Every.{every}
 use Rattle.model.proofs.Sound.{Distinct, ids_of}
 
@@ -23,13 +21,13 @@ use Rattle.model.proofs.Sound.{Distinct, ids_of}
 
 -- what θ says of a variable, η says too
 abbrev pub PartOf : Binding → Binding → Type 0
-PartOf θ η = (v : ℕ) (z : ℤ) → variable_value θ v ≡ Number z → variable_value η v ≡ Number z
+PartOf θ η = (v : ℕ) (z : ℤ) → variable_value θ v ≡ Some z → variable_value η v ≡ Some z
 
 -- a slot under θ is the number z; a place that is not used says nothing, and what no good table holds fits nothing
 abbrev pub SlotIs : Binding → Slot → ℤ → Type 0
 SlotIs θ Unused z = Unit {0}
 SlotIs θ (Constant c) z = c ≡ z
-SlotIs θ (Variable v) z = variable_value θ v ≡ Number z
+SlotIs θ (Variable v) z = variable_value θ v ≡ Some z
 SlotIs θ Bad z = ⊥
 
 abbrev pub SlotsAre : Binding → List Slot → List ℤ → Type 0
@@ -58,7 +56,7 @@ pub record Matching (store : List Stored) (p : HeadPlace) (r : Rule) (i : FactId
   pub distinct : Distinct facts  -- ⊎
   pub matched : HeadsAre θ (heads r) facts
   pub least : (η : Binding) → HeadsAre η (heads r) facts → PartOf θ η
-  pub here : get_elem? (ids_of facts) p.head ≡ some i
+  pub here : slice_get (ids_of facts) p.head ≡ Some i
 
 -- "id(H_1) ++ id(H_2) ++ [i] ++ id(H_3) ++ [r]": the rule, and the identifiers in written head order
 abbrev pub firing : HeadPlace → List Stored → Fired

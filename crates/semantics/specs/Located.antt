@@ -4,7 +4,7 @@
 -- propagation history H. With one location there is no (MoveLoc), and (DropLoc) strips a location name that an entry here does not have. The figure
 -- has no built-in: fail is transition Solve of document 004 (Refined).
 use Rattle.std.specs.Prelude.{ℕ, zero, suc, ◌≤◌, ◌<◌, ◌≡◌, List, [], ◌∷◌, ◌++◌, map, length}
-use Rattle.std.proofs.Math.Option.{none}
+use Rattle.std.specs.Prelude.{None}
 use Rattle.model.specs.declared.FactId.{FactId}
 use Rattle.model.specs.declared.Symbol.{Symbol}
 use Rattle.model.specs.declared.Fact.{Fact}
@@ -14,7 +14,7 @@ use Rattle.model.specs.declared.Entry.{Entry}
 use Rattle.model.specs.declared.Stored.{Stored}
 use Rattle.model.specs.declared.Binding.{Binding}
 use Rattle.model.specs.Table.{Table}
-use Rattle.model.specs.Search.{Fired}
+use Rattle.model.specs.declared.Fired.{Fired}
 use Rattle.model.specs.Steps.{waiting, active_entry}
 use Rattle.model.proofs.Every.{every}
 use Rattle.semantics.specs.Instances.{firing}
@@ -105,7 +105,7 @@ module _ (t : Table) where
     pub d : FactId
     pub i : ℕ
     pub top : σ.G ≡ active_entry symbol d i ∷ τ.G
-    pub absent : occurrence t symbol i ≡ none
+    pub absent : occurrence t symbol i ≡ None
     pub U : τ.U ≡ σ.U
     pub S : τ.S ≡ σ.S
     pub H : τ.H ≡ σ.H

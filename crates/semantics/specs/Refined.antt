@@ -5,10 +5,8 @@
 -- ground, so that B holds nothing until fail makes it false: it is the difference between `holds` and `failed`. S and T are sets, written as lists.
 -- The page writes the active fact itself into its entry, c#i : j; here the entry has its symbol and its identifier, and the fact stands in S.
 use Rattle.std.specs.Prelude.{ℕ, zero, suc, ◌+◌, ◌-◌, ◌≤◌, ◌<◌, ◌≡◌, length, drop}
-use Rattle.std.proofs.Math.Option.{Option, none, some}
+use Rattle.std.specs.Prelude.{true, Option, Some, None, slice_get}
 use mathlib.Core.List.{List, ◌∷◌, ◌++◌, Memᴰ}
-use Rattle.std.proofs.Math.ListN.{get_elem?}
-use Rattle.numbers.specs.declared.Truth.TheVariants.{True}
 use Rattle.model.specs.declared.FactId.{FactId}
 use Rattle.model.specs.declared.Symbol.{Symbol}
 use Rattle.model.specs.declared.Fact.{Fact}
@@ -19,7 +17,7 @@ use Rattle.model.specs.declared.Binding.{Binding}
 use Rattle.model.specs.declared.HeadPlace.{HeadPlace}
 use Rattle.model.specs.Table.{Rule, Table, rule_at, places}
 use Rattle.model.specs.Guards.{guard_value}
-use Rattle.model.specs.Search.{Fired}
+use Rattle.model.specs.declared.Fired.{Fired}
 use Rattle.model.specs.Steps.{State, waiting, active_entry, body_entries}
 use Rattle.semantics.specs.Instances.{Matching, firing}
 
@@ -38,7 +36,7 @@ module _ (t : Table) where
   -- "the j-th occurrence of the CHR predicate of c": which head of the table it is. The page leaves the counting to the earlier text; document 01
   -- counts from 1 over rules from first to last, and inside a rule from the last head to the first.
   abbrev pub occurrence : Symbol → ℕ → Option HeadPlace
-  occurrence s j = get_elem? (places t s) (j - 1)
+  occurrence s j = slice_get (places t s) (j - 1)
 
   -- an active fact c#i : j on top, whose occurrence j exists
   pub record Trying (A : List Entry) : Type 0 where
@@ -48,7 +46,7 @@ module _ (t : Table) where
     pub under : List Entry
     pub place : HeadPlace
     pub top : A ≡ active_entry symbol id j ∷ under
-    pub occurs : occurrence symbol j ≡ some place
+    pub occurs : occurrence symbol j ≡ Some place
 
   abbrev pub rule_tried : {A : List Entry} → Trying A → Rule
   rule_tried a = rule_at t a.place.rule
@@ -57,7 +55,7 @@ module _ (t : Table) where
   -- true; that the run stops there is document 01's choice.
   pub record Enabled (S : List Stored) (p : HeadPlace) (i : FactId) (facts : List Stored) (θ : Binding) : Type 0 where
     pub matching : Matching S p (rule_at t p.rule) i facts θ
-    pub guard : guard_value θ (rule_at t p.rule).guards ≡ True
+    pub guard : guard_value θ (rule_at t p.rule).guards ≡ Some true
 
   -- and that is not in the history: "id(H_1) ++ id(H_2) ++ [i] ++ id(H_3) ++ [r] ∉ T". Propagate tests this order and records another,
   -- "id(H_1) ++ [i] ++ id(H_2) ++ id(H_3) ++ [r]", in which its heads are written: a misprint of the test. Here test and record are in written
@@ -69,7 +67,7 @@ module _ (t : Table) where
   -- the part of a firing that Simplify and Propagate share: the body C under θ, and what is left of S. A body on the page always has a value;
   -- here an argument may have none, and then there is no such transition: the run's ending 4.
   pub record Fires (S S' : List Stored) (p : HeadPlace) (facts : List Stored) (θ : Binding) (C : List Entry) : Type 0 where
-    pub body : body_entries θ (rule_at t p.rule).body ≡ some C
+    pub body : body_entries θ (rule_at t p.rule).body ≡ Some C
     pub store : Without (drop (length (rule_at t p.rule).kept) facts) S S'
 
   -- 1. Solve, "⟨[c|A], S, B, T⟩n ↦ ⟨S_1 ++ A, S, c ∧ B, T⟩n", with c = fail: S_1 is empty, since by the upper bound each fact of S_1 has a
@@ -98,7 +96,7 @@ module _ (t : Table) where
     pub id : FactId
     pub j : ℕ
     pub top : σ.stack ≡ active_entry symbol id j ∷ τ.stack
-    pub absent : occurrence symbol j ≡ none
+    pub absent : occurrence symbol j ≡ None
     pub store : τ.store ≡ σ.store
     pub history : τ.history ≡ σ.history
     pub next : τ.next ≡ σ.next

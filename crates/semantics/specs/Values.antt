@@ -1,11 +1,9 @@
 -- Values under a matching substitution: what it is for a guard and a body to have all their variables bound, what a guard list and a body come to, why an
 -- expression has no value, and what a run that ends in 3 or 4 has met. "Each operation is exact; its value is undefined if it lies outside
 -- -2,147,483,648..2,147,483,647 or the divisor is 0."
-use Rattle.std.specs.Prelude.{ℕ, ◌≡◌, Bool, true, false, ◌⊎◌, ℤ, pos, ◌+ℤ◌, ◌-ℤ◌, ◌*ℤ◌}
+use Rattle.std.specs.Prelude.{ℕ, ◌≡◌, Bool, true, false, ◌⊎◌, ℤ, pos, ◌+ℤ◌, ◌-ℤ◌, ◌*ℤ◌, length}
 use mathlib.Core.List.{List, [], ◌∷◌, ◌++◌, Memᴰ}
-use Rattle.numbers.specs.declared.Value.TheVariants.{Number, Undefined}
-use Rattle.numbers.specs.declared.Truth.{Truth}
-use Rattle.numbers.specs.declared.Truth.TheVariants.{True, False, Undefined as Unknown}
+use Rattle.std.specs.Prelude.{Option, Some, None}
 use Rattle.numbers.specs.Numbers.{in_range, floor_z, mod_z, holds}
 use Rattle.model.specs.declared.FactId.{FactId}
 use Rattle.model.specs.declared.Symbol.{Symbol}
@@ -19,7 +17,6 @@ use Rattle.model.specs.declared.Expression.{Expression}
 use Rattle.model.specs.Table.{Guard, BodyItem, body_fact, body_fail, Table, rule_at}
 use Rattle.model.specs.Guards.{slot_value, expression_value, comparison_value, guard_value}
 use Rattle.model.specs.Run.{Ended}
-use Rattle.model.specs.Matching.{arguments}
 use Rattle.model.specs.Steps.{waiting, fail_entry}
 use Rattle.model.proofs.Every.{every}
 use Rattle.semantics.specs.Instances.{Matching}
@@ -28,7 +25,7 @@ use Rattle.semantics.specs.Instances.{Matching}
 
 pub record SlotBound (θ : Binding) (s : Slot) : Type 0 where
   pub number : ℤ
-  pub value : slot_value θ s ≡ Number number
+  pub value : slot_value θ s ≡ Some number
 
 pub record ExpressionBound (θ : Binding) (e : Expression) : Type 0 where
   pub left : SlotBound θ e.left
@@ -40,30 +37,30 @@ pub record ExpressionBound (θ : Binding) (e : Expression) : Type 0 where
 pub record Compared (θ : Binding) (g : Guard) (answer : Bool) : Type 0 where
   pub a : ℤ
   pub b : ℤ
-  pub left : expression_value θ g.left ≡ Number a
-  pub right : expression_value θ g.right ≡ Number b
+  pub left : expression_value θ g.left ≡ Some a
+  pub right : expression_value θ g.right ≡ Some b
   pub says : holds g.comparator a b ≡ answer
 
 -- "A guard list is read left to right up to the first comparison that is not true. If that one is false, the guard is false; if it has an undefined
 -- side, the guard is undefined. An empty list is true."
-pub data GuardIs (θ : Binding) : List Guard → Truth → Type 0 where
-  empty : GuardIs θ [] True
-  read_on : {g : Guard} {gs : List Guard} {v : Truth} → Compared θ g true → GuardIs θ gs v → GuardIs θ (g ∷ gs) v
-  is_false : {g : Guard} {gs : List Guard} → Compared θ g false → GuardIs θ (g ∷ gs) False
-  left_undefined : {g : Guard} {gs : List Guard} → expression_value θ g.left ≡ Undefined → GuardIs θ (g ∷ gs) Unknown
-  right_undefined : {g : Guard} {gs : List Guard} → expression_value θ g.right ≡ Undefined → GuardIs θ (g ∷ gs) Unknown
+pub data GuardIs (θ : Binding) : List Guard → Option Bool → Type 0 where
+  empty : GuardIs θ [] (Some true)
+  read_on : {g : Guard} {gs : List Guard} {v : Option Bool} → Compared θ g true → GuardIs θ gs v → GuardIs θ (g ∷ gs) v
+  is_false : {g : Guard} {gs : List Guard} → Compared θ g false → GuardIs θ (g ∷ gs) (Some false)
+  left_undefined : {g : Guard} {gs : List Guard} → expression_value θ g.left ≡ None → GuardIs θ (g ∷ gs) None
+  right_undefined : {g : Guard} {gs : List Guard} → expression_value θ g.right ≡ None → GuardIs θ (g ∷ gs) None
 
 -- each expression has the value that stands at its place
 abbrev pub ValuesAre : Binding → List Expression → List ℤ → Type 0
 ValuesAre θ [] [] = Unit {0}
 ValuesAre θ [] (z ∷ zs) = ⊥
 ValuesAre θ (e ∷ es) [] = ⊥
-ValuesAre θ (e ∷ es) (z ∷ zs) = (expression_value θ e ≡ Number z) × ValuesAre θ es zs
+ValuesAre θ (e ∷ es) (z ∷ zs) = (expression_value θ e ≡ Some z) × ValuesAre θ es zs
 
 -- "The body goes on the stack, first item on top": an entry an item, a fact waiting with its arguments in order, and a fail
 pub data BodyIs (θ : Binding) : List BodyItem → List Entry → Type 0 where
   nothing : BodyIs θ [] []
-  waits : {es : List Expression} {is : List BodyItem} {C : List Entry} (f : Fact) → ValuesAre θ es (arguments f) → BodyIs θ is C
+  waits : {es : List Expression} {is : List BodyItem} {C : List Entry} (f : Fact) → length f.arguments ≡ 4 → ValuesAre θ es f.arguments → BodyIs θ is C
       → BodyIs θ (body_fact f.symbol es ∷ is) (waiting f ∷ C)
   fails : {is : List BodyItem} {C : List Entry} → BodyIs θ is C → BodyIs θ (body_fail ∷ is) (fail_entry ∷ C)
 
@@ -86,8 +83,8 @@ pub data NoValue (operation : ℕ) (a b : ℤ) : Type 0 where
 pub record Lacks (θ : Binding) (e : Expression) : Type 0 where
   pub a : ℤ
   pub b : ℤ
-  pub left : slot_value θ e.left ≡ Number a
-  pub right : slot_value θ e.right ≡ Number b
+  pub left : slot_value θ e.left ≡ Some a
+  pub right : slot_value θ e.right ≡ Some b
   pub cause : NoValue e.operation a b
 
 -- "A guard list is read left to right up to the first comparison that is not true. .. if it has an undefined side, the guard is undefined."
@@ -96,7 +93,7 @@ pub record GuardLacks (θ : Binding) (gs : List Guard) : Type 0 where
   pub first : Guard
   pub after : List Guard
   pub whole : gs ≡ before ++ first ∷ after
-  pub holds : every (λ (g : Guard). comparison_value θ g ≡ True) before
+  pub holds : every (λ (g : Guard). comparison_value θ g ≡ Some true) before
   pub side : Lacks θ first.left ⊎ Lacks θ first.right
 
 -- "body argument undefined"
@@ -118,7 +115,7 @@ pub record GuardStops (t : Table) (store : List Stored) (place : ℕ) : Type 0 w
   pub facts : List Stored
   pub θ : Binding
   pub matching : Matching store head (rule_at t head.rule) active facts θ
-  pub guard : guard_value θ (rule_at t head.rule).guards ≡ Unknown
+  pub guard : guard_value θ (rule_at t head.rule).guards ≡ None
   pub cause : GuardLacks θ (rule_at t head.rule).guards
 
 -- 4: "body argument undefined"
@@ -129,7 +126,7 @@ pub record BodyStops (t : Table) (store : List Stored) (place : ℕ) : Type 0 wh
   pub facts : List Stored
   pub θ : Binding
   pub matching : Matching store head (rule_at t head.rule) active facts θ
-  pub guard : guard_value θ (rule_at t head.rule).guards ≡ True
+  pub guard : guard_value θ (rule_at t head.rule).guards ≡ Some true
   pub cause : BodyLacks θ (rule_at t head.rule).body
 
 pub record Causes (t : Table) (store : List Stored) (number place : ℕ) : Type 0 where

@@ -1,84 +1,35 @@
--- The parts of a rule, one after the other: what a turn of each counting loop adds.
-use Prim.Native.Nat.{ℕ, zero, suc, ◌+◌, ◌-◌, ◌<◌, ◌≤◌}
-use mathlib.Core.Path.{◌≡◌, refl, sym, ◌∙◌}
+-- What is counted of a rule is weighed with weights of 0 and 1: each head that has a symbol, and each fact of a body, for 1.
+use Prim.Native.Nat.{ℕ, ◌+◌, ◌≤◌}
+use mathlib.Core.Path.{◌≡◌, refl, ap}
 use mathlib.Core.Bool.{Bool, true, false, cond}
-use mathlib.Core.List.{List}
+use mathlib.Core.List.{List, [], ◌∷◌}
 use native.Mathlib.Omega.{arith}
-use lib.Dec.{eqb}
-use lib.ListN.{length, get_or}
-use borrow.Author.Tests.{eq-eqb, ne_eqb}
 use Rattle.model.specs.declared.Symbol.{Symbol}
-use Rattle.model.specs.Table.{head_at, heads_from, is_fact, behind_item, body_fact_at, items_from}
-use Rattle.model.specs.Weights.{body_facts}
-use Rattle.model.proofs.Decoded.{heads-first, items-first, item-fact, item-fail}
-use Rattle.records.proofs.PartsLie.{rest-lies}
-use Rattle.rule_weights.specs.Views.{FewHeads, FewItems}
-use Rattle.rule_weights.proofs.Parts.{Left, ItemsLeft}
+use Rattle.model.specs.Table.{Head, BodyItem, body_fact, body_fail, same_symbol}
+use Rattle.model.specs.Weights.{heads_weight, body_weight, body_facts}
+use Rattle.rule_weights.specs.Views.{Counted}
 use Rattle.step_bound.specs.Views.{heads_with}
 
--- ---- heads with a symbol
+abbrev pub is : Symbol → Symbol → ℕ
+is s x = cond (same_symbol x s) 1 0
 
-module _ (t : List ℕ) (s : Symbol) where
-  abbrev with_left : ℕ → ℕ → ℕ
-  with_left p n = heads_with s (heads_from t p n)
+pub heads-with : (s : Symbol) (hs : List Head) → heads_weight (is s) hs ≡ heads_with s hs
+unfolding heads_weight heads_with
+heads-with s [] = refl
+heads-with s (h ∷ hs) = ap (λ (n : ℕ). is s h.symbol + n) (heads-with s hs)
 
-  with-turn : (p n : ℕ) (x : Bool) → 0 < n → eqb (get_or t (p + 1) 0) s.0 ≡ x → with_left p n ≡ cond x 1 0 + with_left (p + 22) (n - 1)
-  unfolding heads_with head_at
-  with-turn p n x h e = rw (heads-first t p n h, e)
+pub is-counted : (s x : Symbol) {r : ℕ} → r ≡ is s x → Counted (is s x) 1 r
+is-counted s x e = record { same = e; few = rw e (go (same_symbol x s)) }
+  where
+    go : (b : Bool) → cond b 1 0 ≤ 1
+    go true = omega arith
+    go false = omega arith
 
-  pub with-begins : {p n : ℕ} → FewHeads t p n → Left 1 22 4 (length t) (with_left p n) (with_left p n) 0 p n
-  with-begins f = record { same = omega arith; few = omega (arith, f.few); near = f.lie }
+abbrev pub one : Symbol → ℕ
+one x = 1
 
-  pub with-none : (p n : ℕ) → n ≤ 0 → with_left p n ≡ 0
-  unfolding heads_with heads_from
-  with-none p zero h = refl
-  with-none p (suc n) h = absurd (omega arith)
-
-  module _ {far whole sum p left b : ℕ} (l : Left 1 22 4 far whole (with_left p left) sum p left) (h : 0 < left) (e : b ≡ get_or t (p + 1) 0) where
-    pub head-same : b ≡ s.0 → Left 1 22 4 far whole (with_left (p + 22) (left - 1)) (sum + 1) (p + 22) (left - 1)
-    head-same q = record {
-      same = omega (arith, l.same, with-turn p left true h (eq-eqb _ _ (sym e ∙ q)));
-      few = omega (arith, l.few);
-      near = omega (arith, l.near);
-    }
-
-    pub head-other : (b ≡ s.0 → ⊥) → Left 1 22 4 far whole (with_left (p + 22) (left - 1)) sum (p + 22) (left - 1)
-    head-other q = record {
-      same = omega (arith, l.same, with-turn p left false h (ne_eqb _ _ (λ (d : get_or t (p + 1) 0 ≡ s.0). q (e ∙ d))));
-      few = omega (arith, l.few);
-      near = omega (arith, l.near);
-    }
-
--- ---- the facts of a body
-
-module _ (t : List ℕ) where
-  abbrev facts_left : ℕ → ℕ → ℕ
-  facts_left p n = body_facts (items_from t p n)
-
-  pub items-none : (p n : ℕ) → n ≤ 0 → facts_left p n ≡ 0
-  unfolding body_facts items_from
-  items-none p zero h = refl
-  items-none p (suc n) h = absurd (omega arith)
-
-  fact-more : (p n : ℕ) → 0 < n → is_fact t p ≡ true → facts_left p n ≡ suc (facts_left (behind_item t p) (n - 1))
-  unfolding body_facts body_fact_at
-  fact-more p n h e = rw (items-first t p n h, item-fact t p e)
-
-  fail-more : (p n : ℕ) → 0 < n → is_fact t p ≡ false → facts_left p n ≡ facts_left (behind_item t p) (n - 1)
-  unfolding body_facts
-  fail-more p n h e = rw (items-first t p n h, item-fail t p e)
-
-  pub facts-begin : {p n : ℕ} → FewItems t p n → ItemsLeft t 1 4 (facts_left p n) (facts_left p n) 0 p n
-  facts-begin f = record { same = omega arith; few = omega (arith, f.few); lie = f.lie }
-
-  module _ {whole sum p left : ℕ} (l : ItemsLeft t 1 4 whole (facts_left p left) sum p left) (h : 0 < left) {next : ℕ} (b : next ≡ behind_item t p)
-      {f : Bool} (q : f ≡ is_fact t p) where
-    pub fact-counted : f ≡ true → ItemsLeft t 1 4 whole (facts_left next (left - 1)) (sum + 1) next (left - 1)
-    fact-counted d =
-        let turn : facts_left p left ≡ suc (facts_left next (left - 1)) = rw b (fact-more p left h (sym q ∙ d)) in
-        record { same = omega (arith, l.same, turn); few = omega (arith, l.few); lie = rest-lies t p left l.lie h b }
-
-    pub fail-passed : f ≡ false → ItemsLeft t 1 4 whole (facts_left next (left - 1)) sum next (left - 1)
-    fail-passed d =
-        let turn : facts_left p left ≡ facts_left next (left - 1) = rw b (fail-more p left h (sym q ∙ d)) in
-        record { same = omega (arith, l.same, turn); few = omega (arith, l.few); lie = rest-lies t p left l.lie h b }
+pub facts-one : (is : List BodyItem) → body_weight one is ≡ body_facts is
+unfolding body_weight body_facts
+facts-one [] = refl
+facts-one (body_fact s es ∷ is) = omega (arith, facts-one is)
+facts-one (body_fail ∷ is) = facts-one is

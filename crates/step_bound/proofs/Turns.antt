@@ -1,6 +1,6 @@
 -- The rules of a good table, one after the other: what a turn of each loop for B and M finds. The number of a symbol's head places is the number
 -- of heads with that symbol, summed over the rules, since a head is a place of its own symbol and of no other.
-use Prim.Native.Nat.{ℕ, suc, max, ◌+◌, ◌-◌, ◌*◌, ◌<◌, ◌≤◌}
+use Prim.Native.Nat.{ℕ, suc, max, ◌+◌, ◌*◌, ◌<◌, ◌≤◌}
 use mathlib.Core.Path.{◌≡◌, refl, ap, ◌∙◌}
 use mathlib.Core.Bool.{Bool, true, false, cond}
 use mathlib.Core.List.{List, [], ◌∷◌}
@@ -14,12 +14,13 @@ use Rattle.model.specs.declared.RuleShape.{RuleShape}
 use Rattle.model.specs.Reading.{no_shape, read_of}
 use Rattle.model.specs.Table.{Head, Rule, Table, heads, heads_start, heads_from, items_start, items_from, table_of, rule_of, same_symbol, place_if}
 use Rattle.model.specs.Table.{places_in, places_from, places}
-use Rattle.model.specs.Weights.{body_facts, most_facts, most_places}
+use Rattle.model.specs.Weights.{heads_weight, body_weight, body_facts, most_facts, most_places}
 use Rattle.model.proofs.Decoded.{rule-body, rule-heads}
-use Rattle.rule_weights.specs.Views.{Counted, Known, FewHeads, Lies}
-use Rattle.rule_weights.proofs.Parts.{Left, ended}
+use Rattle.rule_weights.specs.Views.{Counted, Known, Lies}
+use Rattle.rule_weights.proofs.Parts.{Part}
 use Rattle.rule_weights.proofs.Turns.{few-rules, first, last}
 use Rattle.step_bound.specs.Views.{heads_with, all_heads_with}
+use Rattle.step_bound.proofs.Parts.{is, heads-with, one, facts-one}
 
 -- ---- B
 
@@ -32,16 +33,10 @@ abbrev facts_from : List ℕ → ℕ → ℕ
 facts_from t i = most_facts (drop i (table_of t).rules)
 
 module _ {t : List ℕ} {r : Reading} (k : Known t r) {i whole most : ℕ} (m : Most whole (facts_from t i) 4 most) where
-  module _ (h : i < r.rules) {facts : ℕ} (c : Counted (body_facts (rule_of t (get_or r.shapes i no_shape)).body) 4 facts) where
-    facts-turn : facts_from t i ≡ max (body_facts (rule_of t (get_or r.shapes i no_shape)).body) (facts_from t (i + 1))
-    unfolding most_facts
-    facts-turn = rw (first k h)
-
-    pub more-facts : most < facts → Most whole (facts_from t (i + 1)) 4 facts
-    more-facts l = record { same = omega (arith, facts-turn, m.same, c.same); few = c.few }
-
-    pub no-more-facts : facts ≤ most → Most whole (facts_from t (i + 1)) 4 most
-    no-more-facts l = record { same = omega (arith, facts-turn, m.same, c.same); few = m.few }
+  pub more-facts : i < r.rules → {facts : ℕ} → Counted (body_facts (rule_of t (get_or r.shapes i no_shape)).body) 4 facts
+      → Most whole (facts_from t (i + 1)) 4 (max facts most)
+  unfolding most_facts
+  more-facts h c = record { same = omega (arith, ap most_facts (first k h), m.same, c.same); few = omega (arith, c.few, m.few) }
 
   pub facts-done : r.rules ≤ i → Counted whole 4 most
   unfolding most_facts
@@ -81,31 +76,27 @@ module _ (s : Symbol) where
   with_from t i = all_heads_with s (drop i (table_of t).rules)
 
   module _ {t : List ℕ} {r : Reading} (k : Known t r) where
-    pub places-begin : Left 4 1 256 64 (length (places (table_of t) s)) (with_from t 0) 0 0 (r.rules - 0)
-    places-begin = record { same = omega (arith, places-count (table_of t)); few = omega (arith, few-rules k); near = omega (arith, few-rules k) }
+    pub places-begin : Part (length (places (table_of t) s)) (with_from t 0) (4 * 0) 0
+    places-begin = record { same = omega (arith, places-count (table_of t)); few = omega arith }
 
-    module _ {i count whole : ℕ} (l : Left 4 1 256 64 whole (with_from t i) count i (r.rules - i)) where
+    module _ {i count whole : ℕ} (l : Part whole (with_from t i) (4 * i) count) where
       pub places-turn : {c : ℕ} → i < r.rules → Counted (heads_with s (heads (rule_of t (get_or r.shapes i no_shape)))) 4 c
-          → Left 4 1 256 64 whole (with_from t (i + 1)) (count + c) (i + 1) (r.rules - (i + 1))
+          → Part whole (with_from t (i + 1)) (4 * (i + 1)) (count + c)
       unfolding all_heads_with
-      places-turn h c = record {
-        same = omega (arith, l.same, c.same, ap (all_heads_with s) (first k h));
-        few = omega (arith, l.few, c.few);
-        near = omega (arith, l.near);
-      }
+      places-turn h c =
+          record { same = omega (arith, l.same, c.same, ap (all_heads_with s) (first k h)); few = omega (arith, l.few, c.few) }
 
-      pub places-done : r.rules ≤ i → Counted whole 256 count
+      pub places-fit : {c : ℕ} → i < r.rules → c ≤ 4 → count + c ≤ 256
+      places-fit h c = omega (arith, l.few, few-rules k)
+
+      pub places-done : r.rules ≤ i → i ≤ r.rules → Counted whole 256 count
       unfolding all_heads_with
-      places-done h = ended l (ap (all_heads_with s) (last k h))
+      places-done h e = record { same = omega (arith, l.same, ap (all_heads_with s) (last k h)); few = omega (arith, l.few, few-rules k) }
 
-module _ (t : Table) (n : ℕ) {most count : ℕ} (e : Counted (most_places t n) 256 most) (c : Counted (length (places t (record { 0 = n }))) 256 count) where
-  pub more-places : most < count → Counted (most_places t (n + 1)) 256 count
-  unfolding most_places
-  more-places l = record { same = rw (add-one n) (omega (arith, e.same, c.same)); few = c.few }
-
-  pub no-more-places : count ≤ most → Counted (most_places t (n + 1)) 256 most
-  unfolding most_places
-  no-more-places l = record { same = rw (add-one n) (omega (arith, e.same, c.same)); few = e.few }
+pub more-places : (t : Table) (n : ℕ) {most count : ℕ} → Counted (most_places t n) 256 most → Counted (length (places t (record { 0 = n }))) 256 count
+    → Counted (most_places t (n + 1)) 256 (max count most)
+unfolding most_places
+more-places t n e c = record { same = rw (add-one n) (omega (arith, e.same, c.same)); few = omega (arith, e.few, c.few) }
 
 pub no-places : (t : Table) → Counted (most_places t 0) 256 0
 unfolding most_places
@@ -121,14 +112,11 @@ places-all {t} {r} k n c a b =
 -- ---- a rule by where it stands
 
 module _ {t : List ℕ} {r : RuleShape} (l : Lies t r) {p : ℕ} where
-  pub heads-lie : p ≡ heads_start r + 22 * 0 → FewHeads t p r.heads
-  heads-lie e = record { lie = omega (arith, l.parts_in); few = l.few_heads }
+  pub rule-facts : {n : ℕ} → p ≡ items_start r → Counted (body_weight one (items_from t p r.items)) 4 n → Counted (body_facts (rule_of t r).body) 4 n
+  rule-facts e c = rw (rule-body t r, ← e, ← facts-one (items_from t p r.items)) c
 
-  pub rule-facts : {n : ℕ} → p ≡ items_start r → Counted (body_facts (items_from t p r.items)) 4 n → Counted (body_facts (rule_of t r).body) 4 n
-  rule-facts e c = rw (rule-body t r, ← e) c
-
-  pub rule-with : (s : Symbol) {n : ℕ} → p ≡ heads_start r + 22 * 0 → Counted (heads_with s (heads_from t p r.heads)) 4 n
+  pub rule-with : (s : Symbol) {n : ℕ} → p ≡ heads_start r + 22 * 0 → Counted (heads_weight (is s) (heads_from t p r.heads)) 4 n
       → Counted (heads_with s (heads (rule_of t r))) 4 n
   rule-with s e c =
       let first : heads_start r ≡ p = omega arith in
-      rw (rule-heads t r l.kept_few, first) c
+      rw (rule-heads t r l.kept_few, first, ← heads-with s (heads_from t p r.heads)) c

@@ -1,8 +1,6 @@
 // The step bound of a weighing, (G + B·W)·(M + 2) + W + 1, and what it is made of: G of a goal, B and M of a table.
 #![tactic(auto)]
 
-pub mod bodies;
-pub mod heads;
 pub mod rules;
 
 ghost use Rattle.std.specs.Prelude.{◌≡◌, ◌/◌, ◌≤◌, length};

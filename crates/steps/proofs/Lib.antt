@@ -1,4 +1,2 @@
-pub mod Stacked
-pub mod Pushed
-pub mod Running
-pub mod Beginning
+pub mod Lists
+pub mod Turns

@@ -1,71 +1,28 @@
--- The row of an identifier: the rows from i on answer for the whole, and the fact of the row that is found is the stored one.
-use mathlib.Core.Path.{◌≡◌, refl, sym, ◌∙◌}
-use mathlib.Core.Bool.{Bool, true, false, cond}
-use mathlib.Core.Option.{Option, none, some}
-use mathlib.Core.List.{List}
-use Prim.Native.Nat.{ℕ, zero, suc, ◌+◌, ◌-◌, ◌<◌, ◌≤◌}
-use native.Mathlib.Omega.{arith}
-use native.Mathlib.Numerals.{add-one}
-use lib.Dec.{eqb}
-use lib.IntN.{ℤ}
-use lib.ListN.{get_or}
-use borrow.Author.Tests.{eq-eqb, ne_eqb}
+-- The fact of an identifier is that of the first stored one that is found by it.
+use Rattle.std.proofs.Common.{◌≡◌, refl, ap, ◌∙◌, Bor, Bool, true, false, List, [], ◌∷◌, cond, Option, Some, None}
+use Rattle.std.specs.List.{find}
+use Rattle.std.specs.Option.{option_map}
 use Rattle.model.specs.declared.FactId.{FactId}
 use Rattle.model.specs.declared.Fact.{Fact}
-use Rattle.model.specs.Limits.{store_room}
-use Rattle.model.specs.Search.{stored_fact, fact_if}
-use Rattle.store.specs.declared.Lookup.{Lookup}
-use Rattle.store.specs.declared.Lookup.TheVariants.{Here, Gone}
-use Rattle.store.specs.Views.{row_fact, row_at, row_of, rows_from, lookup_of}
+use Rattle.model.specs.declared.Stored.{Stored}
+use Rattle.model.specs.Search.{stored_fact, same_id, fact_if}
 
--- the rows from i on, looked through
-unfoldable pub looked_from : List ℕ → FactId → ℕ → ℕ → Option ℕ
-looked_from ids id n i = row_of id ids i (n - i)
-
-module _ (ids : List ℕ) (id : FactId) (n i : ℕ) where
-  pub look-start : looked_from ids id n 0 ≡ row_of id ids 0 n
-  unfolding looked_from
-  look-start = let e : n - 0 ≡ n = omega arith in rw e refl
-
-  pub look-hit : i < n → get_or ids i 0 ≡ id.0 → {whole : Option ℕ} → looked_from ids id n i ≡ whole → lookup_of (Here i) ≡ whole
-  unfolding looked_from row_of lookup_of
-  look-hit l h w = let e : n - i ≡ suc (n - (i + 1)) = omega arith in sym (rw (e, eq-eqb _ _ h) refl) ∙ w
-
-  pub look-miss : i < n → (get_or ids i 0 ≡ id.0 → ⊥) → {whole : Option ℕ} → looked_from ids id n i ≡ whole → looked_from ids id n (i + 1) ≡ whole
-  unfolding looked_from row_of
-  look-miss l h w = let e : n - i ≡ suc (n - (i + 1)) = omega arith in sym (rw (e, ne_eqb _ _ h, add-one i) refl) ∙ w
-
-  pub look-none : {whole : Option ℕ} → looked_from ids id n i ≡ whole → n ≤ i → lookup_of Gone ≡ whole
-  unfolding looked_from row_of lookup_of
-  look-none w l = let e : n - i ≡ 0 = omega arith in sym (rw e refl) ∙ w
-
--- the fact of the row that is found is the stored one
-abbrev pub fact_of_row : List ℕ → List ℤ → Option ℕ → Option Fact
-fact_of_row symbols args none = none
-fact_of_row symbols args (some i) = some (row_fact symbols args i)
-
-pub stored-row : (symbols ids : List ℕ) (args : List ℤ) (id : FactId) (i n : ℕ)
-    → stored_fact id (rows_from symbols ids args i n) ≡ fact_of_row symbols args (row_of id ids i n)
-unfolding stored_fact rows_from row_of row_at
-stored-row symbols ids args id i zero = refl
-stored-row symbols ids args id i (suc n) = go (eqb (get_or ids i 0) id.0) (row_of id ids (suc i) n) (stored-row symbols ids args id (suc i) n)
+pub found-fact : (id : FactId) (ss : List Stored) → option_map (λ (s : Stored). s.fact) (find (λ (s : Stored). same_id s.id id) ss) ≡ stored_fact id ss
+unfolding stored_fact
+found-fact id [] = refl
+found-fact id (s ∷ ss) = go (same_id s.id id) (find (λ (x : Stored). same_id x.id id) ss) (found-fact id ss)
   where
-    go : (x : Bool) (o : Option ℕ) {later : Option Fact} → later ≡ fact_of_row symbols args o
-        → fact_if x (row_fact symbols args i) later ≡ fact_of_row symbols args (cond x (some i) o)
-    go true o e = refl
-    go false o e = e
+    go : (b : Bool) (found : Option Stored) {later : Option Fact} → option_map (λ (x : Stored). x.fact) found ≡ later
+        → option_map (λ (x : Stored). x.fact) (cond b (Some s) found) ≡ fact_if b s.fact later
+    go true found e = refl
+    go false found e = e
 
--- and it is one of the rows
-row-within : (ids : List ℕ) (id : FactId) (i n : ℕ) {r : ℕ} → row_of id ids i n ≡ some r → r < i + n
-unfolding row_of
-row-within ids id i zero e = absurd (let z : ◌≡◌ {A = ℕ} 0 1 = cc in omega arith)
-row-within ids id i (suc n) {r} e = go (eqb (get_or ids i 0) id.0) e (λ q. row-within ids id (suc i) n q)
+-- the same of what `find` gave
+pub found-as : (id : FactId) (ss : List Stored) (o : Option (Bor Stored)) → option_map (λ (s : Bor Stored). s.now) o ≡ find (λ (s : Stored). same_id s.id id) ss
+    → option_map (λ (s : Bor Stored). s.now.fact) o ≡ stored_fact id ss
+found-as id ss o e = same o ∙ ap (option_map (λ (s : Stored). s.fact)) e ∙ found-fact id ss
   where
-    go : (x : Bool) → cond x (some i) (row_of id ids (suc i) n) ≡ some r → (row_of id ids (suc i) n ≡ some r → r < suc i + n) → r < i + suc n
-    go true q k = let s : i ≡ r = cc in omega arith
-    go false q k = omega (arith, k q)
-
-pub row-in : (ids : List ℕ) (id : FactId) (n : ℕ) (found : Lookup) → lookup_of found ≡ row_of id ids 0 n → {r : ℕ} → found ≡ Here r
-    → n ≤ store_room → r < store_room
-unfolding lookup_of
-row-in ids id n found fe {r} e l = let q : row_of id ids 0 n ≡ some r = sym fe ∙ rw e refl in omega (arith, row-within ids id 0 n q)
+    same : (q : Option (Bor Stored))
+        → option_map (λ (s : Bor Stored). s.now.fact) q ≡ option_map (λ (s : Stored). s.fact) (option_map (λ (s : Bor Stored). s.now) q)
+    same (Some s) = refl
+    same None = refl

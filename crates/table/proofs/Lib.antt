@@ -1,5 +1,5 @@
 pub mod Scans
-pub mod Turns
 pub mod Enough
+pub mod Turns
 pub mod Only
 pub mod Verdicts

@@ -5,27 +5,30 @@ use mathlib.Core.Path.{◌≡◌, refl, sym, ◌∙◌, subst}
 use mathlib.Core.List.{List}
 use mathlib.Core.Bool.{Bool, true, false, cond}
 use native.Mathlib.Omega.{arith}
-use lib.ListN.{length}
-use lib.Dec.{ltb}
+use lib.ListN.{length, get_or}
+use lib.Dec.{ltb, leb}
 use borrow.Author.Tests.{ltb-false}
 use Rattle.variables.specs.Named.{Follows, headless, head, same}
-use Rattle.model.specs.Records.{size_of, earliest_of, latest_of, out_of_order}
-use Rattle.model.specs.Reading.{behind, fields_of, ordered_of, tested_of, record_of}
+use Rattle.model.specs.Records.{kind_of, size_of, earliest_of, latest_of, out_of_order}
+use Rattle.model.specs.Reading.{RecordStep, behind, fields_of, ordered_of, tested_of, known_of, record_of}
 use Rattle.model.specs.declared.Kind.{Kind}
-use Rattle.model.specs.declared.Kind.TheVariants.{NextSymbol, NextRule, KeptHead, RemovedHead, Comparison, BodyFact, BodyFail, EndOfTable, Unknown}
+use Rattle.model.specs.declared.Kind.TheVariants.{NextSymbol, NextRule, KeptHead, RemovedHead, Comparison, BodyFact, BodyFail, EndOfTable}
 use Rattle.model.specs.declared.RuleShape.{RuleShape}
 use Rattle.model.specs.declared.Scan.{Scan}
-use Rattle.model.specs.declared.RecordStep.{RecordStep}
-use Rattle.model.specs.declared.RecordStep.TheVariants.{Next, Stop, Done}
+use Rattle.std.specs.Prelude.{Option, Some, None, Ok, Err}
+use Rattle.model.specs.declared.Behind.TheVariants.{Next, Done}
+use Rattle.model.specs.declared.Reason.{Reason}
+use Rattle.model.specs.declared.Reason.TheVariants.{CutShort}
+use Rattle.model.specs.Refusals.{refused}
 use Rattle.model.proofs.Good.{Sane, not-early, not-late}
 
 -- a good record followed the rule's heads, or was none
 abbrev After : List ℕ → Scan → RecordStep → Type 0
-After t s (Next s') = Follows t s.at s.shape s'.shape
-After t s (Stop n p) = Unit {0}
-After t s (Done p) = Unit {0}
+After t s (Ok (Next s')) = Follows t s.at s.shape s'.shape
+After t s (Err r) = Unit {0}
+After t s (Ok (Done p)) = Unit {0}
 
-stopped : (t : List ℕ) (s : Scan) (b : Bool) (n p : ℕ) (y : RecordStep) → (b ≡ false → After t s y) → After t s (cond b (Stop n p) y)
+stopped : (t : List ℕ) (s : Scan) (b : Bool) (n : Reason) (p : ℕ) (y : RecordStep) → (b ≡ false → After t s y) → After t s (cond b (refused n p) y)
 stopped t s true n p y q = tt
 stopped t s false n p y q = q refl
 
@@ -37,7 +40,7 @@ module _ (t : List ℕ) (s : Scan) (shapes : List RuleShape) (w : Sane t s shape
       let r = w.in_rule (omega (arith, not-early k s.stage e)) in
       omega (arith, r.at_items (omega arith), r.no_guard late)
 
-  behind-follows : (k : Kind) → ltb (length t) (s.at + size_of k) ≡ false → out_of_order k s.stage ≡ false → After t s (behind s k)
+  behind-follows : (k : Kind) → ltb (length t) (s.at + size_of k) ≡ false → out_of_order k s.stage ≡ false → After t s (Ok (behind s k))
   unfolding behind
   behind-follows NextSymbol l o = same refl refl
   behind-follows NextRule l o = headless refl
@@ -47,11 +50,19 @@ module _ (t : List ℕ) (s : Scan) (shapes : List RuleShape) (w : Sane t s shape
   behind-follows BodyFact l o = same refl refl
   behind-follows BodyFail l o = same refl refl
   behind-follows EndOfTable l o = tt
-  behind-follows Unknown l o = tt
+
+  tested-follows : (k : Kind) → After t s (tested_of t s k)
+  unfolding tested_of ordered_of fields_of
+  tested-follows k = search (stopped, behind-follows) depth 20
+
+  known-follows : (o : Option Kind) → After t s (known_of t s o)
+  unfolding known_of
+  known-follows None = tt
+  known-follows (Some k) = tested-follows k
 
   record-follows : After t s (record_of t s)
-  unfolding record_of tested_of ordered_of fields_of
-  record-follows = search (stopped, behind-follows) depth 20
+  unfolding record_of
+  record-follows = stopped t s (leb (length t) s.at) CutShort (length t) _ (λ e. known-follows (kind_of (get_or t s.at 0)))
 
-  pub next-follows : {r : RecordStep} {s' : Scan} → r ≡ record_of t s → r ≡ Next s' → Follows t s.at s.shape s'.shape
+  pub next-follows : {r : RecordStep} {s' : Scan} → r ≡ record_of t s → r ≡ Ok (Next s') → Follows t s.at s.shape s'.shape
   next-follows e d = subst (After t s) (sym e ∙ d) record-follows

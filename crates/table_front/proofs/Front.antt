@@ -7,21 +7,20 @@ use mathlib.Core.Path.{◌≡◌, refl, ap}
 use mathlib.Core.Bool.{Bool, true, false, cond}
 use mathlib.Core.List.{List}
 use native.Mathlib.Omega.{arith}
-use lib.Dec.{eqb}
 use lib.ListN.{length, get_or, take}
 use lib.Seq.{get_or-take, length-take-le}
 use borrow.Author.Tests.{lt-ltb, le-ltb, lt-leb}
 use Rattle.model.specs.declared.Kind.{Kind}
-use Rattle.model.specs.declared.Kind.TheVariants.{NextSymbol, NextRule, KeptHead, RemovedHead, Comparison, BodyFact, BodyFail, EndOfTable, Unknown}
+use Rattle.model.specs.declared.Kind.TheVariants.{NextSymbol, NextRule, KeptHead, RemovedHead, Comparison, BodyFact, BodyFail, EndOfTable}
 use Rattle.model.specs.declared.RuleShape.{RuleShape}
 use Rattle.model.specs.declared.Scan.{Scan}
-use Rattle.model.specs.declared.RecordStep.{RecordStep}
-use Rattle.model.specs.declared.RecordStep.TheVariants.{Next, Stop, Done}
+use Rattle.std.specs.Prelude.{Option, Some, None, Ok, Err}
+use Rattle.model.specs.declared.Behind.TheVariants.{Next, Done}
 use Rattle.model.specs.declared.Reading.{Reading}
-use Rattle.model.specs.declared.Verdict.{Verdict}
-use Rattle.model.specs.declared.Verdict.TheVariants.{Good, Refused}
+use Rattle.model.specs.Refusals.{Verdict}
 use Rattle.model.specs.Records.{kind_of, size_of, earliest_of, out_of_order, headless, too_many}
-use Rattle.model.specs.Reading.{fields_of, ordered_of, tested_of, record_of, noted, ended, go_on, read_from, first_scan, no_shapes, read_of}
+use Rattle.model.specs.Reading.{RecordStep, fields_of, ordered_of, tested_of, known_of, record_of}
+use Rattle.model.specs.Reading.{noted, ended, go_on, read_from, first_scan, no_shapes, read_of}
 use Rattle.model.specs.Calls.{verdict_result, check_of}
 use Rattle.model.proofs.Good.{Sane, first-sane, at-near, not-early, StepIs, record-is, good-table, refusal-small}
 use Rattle.table_front.proofs.Tests.{Agree, field-same, strange-same}
@@ -40,7 +39,6 @@ size-most Comparison = omega arith
 size-most BodyFact = omega arith
 size-most BodyFail = omega arith
 size-most EndOfTable = omega arith
-size-most Unknown = omega arith
 
 module _ {n : ℕ} {t u : List ℕ} (a : Agree n t u) (wide : 23727 ≤ n) where
   -- ---- one record
@@ -70,8 +68,12 @@ module _ {n : ℕ} {t u : List ℕ} (a : Agree n t u) (wide : 23727 ≤ n) where
         rw (
           le-ltb (length t) (s.at + size_of k) (omega (arith, a.long)),
           le-ltb (length u) (s.at + size_of k) (omega (arith, a.alike)),
-        ) (cond-same (eqb (size_of k) 0) _ _ _ (λ known.
-        cond-same (out_of_order k s.stage) _ _ _ (λ ordered. ap (cond (headless k s.stage) _) (ap (cond (too_many k s) _) (fields-same k ordered)))))
+        ) (cond-same (out_of_order k s.stage) _ _ _ (λ ordered. ap (cond (headless k s.stage) _) (ap (cond (too_many k s) _) (fields-same k ordered))))
+
+    known-same : (o : Option Kind) → known_of t s o ≡ known_of u s o
+    unfolding known_of
+    known-same None = refl
+    known-same (Some k) = tested-same k
 
     record-same : record_of t s ≡ record_of u s
     unfolding record_of
@@ -81,7 +83,7 @@ module _ {n : ℕ} {t u : List ℕ} (a : Agree n t u) (wide : 23727 ≤ n) where
           lt-leb (length t) s.at (omega (arith, a.long)),
           lt-leb (length u) s.at (omega (arith, a.alike)),
           a.bytes s.at (omega arith),
-        ) (tested-same (kind_of (get_or u s.at 0)))
+        ) (known-same (kind_of (get_or u s.at 0)))
 
     -- both have bytes behind the end record
     ended-same : (p : ℕ) → p ≡ s.at + 1 → ended t p ≡ ended u p
@@ -96,9 +98,9 @@ module _ {n : ℕ} {t u : List ℕ} (a : Agree n t u) (wide : 23727 ≤ n) where
       → ((s' : Scan) (shapes' : List RuleShape) → Sane t s' shapes' → n ≤ i + s'.at → n ≤ j + s'.at → read_from i t s' shapes' ≡ read_from j u s' shapes')
       → (r : RecordStep) → StepIs t s shapes r → go_on t s shapes (read_from i t) r ≡ go_on u s shapes (read_from j u) r
   unfolding go_on
-  on-same i j s shapes h l m ih (Next s') q = ih s' (noted shapes s') q.1 (omega (arith, q.0)) (omega (arith, q.0))
-  on-same i j s shapes h l m ih (Stop k p) q = refl
-  on-same i j s shapes h l m ih (Done p) q = rw (ended-same s shapes h p q.0)
+  on-same i j s shapes h l m ih (Ok (Next s')) q = ih s' (noted shapes s') q.1 (omega (arith, q.0)) (omega (arith, q.0))
+  on-same i j s shapes h l m ih (Err r) q = refl
+  on-same i j s shapes h l m ih (Ok (Done p)) q = rw (ended-same s shapes h p q.0)
 
   from-same : (i j : ℕ) (s : Scan) (shapes : List RuleShape) → Sane t s shapes → n ≤ i + s.at → n ≤ j + s.at → read_from i t s shapes ≡ read_from j u s shapes
   unfolding read_from
@@ -135,14 +137,14 @@ front-check t l = ap verdict_result (front-verdict t l)
 -- ---- a table that is good
 
 -- "The longest good table has 23,681 bytes."
-pub good-short : (t : List ℕ) → (read_of t).verdict ≡ Good → length t ≤ 23681
+pub good-short : (t : List ℕ) → (read_of t).verdict ≡ Ok tt → length t ≤ 23681
 good-short t e = (good-table t e).short
 
 -- a refusal's number is 16 at least, so that 0 is a good table's
-pub check-good : (t : List ℕ) → (check_of t).number ≡ 0 → (read_of t).verdict ≡ Good
+pub check-good : (t : List ℕ) → (check_of t).number ≡ 0 → (read_of t).verdict ≡ Ok tt
 unfolding check_of verdict_result
 check-good t e = go (read_of t).verdict refl e
   where
-    go : (v : Verdict) → (read_of t).verdict ≡ v → (verdict_result v).number ≡ 0 → v ≡ Good
-    go Good q e = refl
-    go (Refused n p) q e = absurd (omega (arith, (refusal-small t n p q).low))
+    go : (v : Verdict) → (read_of t).verdict ≡ v → (verdict_result v).number ≡ 0 → v ≡ Ok tt
+    go (Ok u) q e = refl
+    go (Err r) q e = absurd (omega (arith, (refusal-small t r q).low))

@@ -10,7 +10,7 @@ use lib.ListN.{length, get_or}
 use borrow.Author.Tests.{leb-false}
 use Rattle.wire.specs.Wire.{u32_at}
 use Rattle.model.specs.declared.Kind.{Kind}
-use Rattle.model.specs.declared.Kind.TheVariants.{NextSymbol, NextRule, KeptHead, RemovedHead, Comparison, BodyFact, BodyFail, EndOfTable, Unknown}
+use Rattle.model.specs.declared.Kind.TheVariants.{NextSymbol, NextRule, KeptHead, RemovedHead, Comparison, BodyFact, BodyFail, EndOfTable}
 use Rattle.model.specs.declared.Scan.{Scan}
 use Rattle.model.specs.declared.Slot.{Slot}
 use Rattle.model.specs.declared.Slot.TheVariants.{Unused, Constant, Variable, Bad}
@@ -99,7 +99,6 @@ module _ {n : ℕ} {t u : List ℕ} (a : Agree n t u) where
   field-same s few l BodyFact = fact-same s.at s.symbols few l
   field-same s few l BodyFail = refl
   field-same s few l EndOfTable = refl
-  field-same s few l Unknown = refl
 
   -- ---- 22
 
@@ -162,4 +161,3 @@ module _ {n : ℕ} {t u : List ℕ} (a : Agree n t u) where
   strange-same s l BodyFact near = strange-fact-same s.shape.start s.shape.heads (near (omega arith)) s.at l
   strange-same s l BodyFail near = refl
   strange-same s l EndOfTable near = refl
-  strange-same s l Unknown near = refl

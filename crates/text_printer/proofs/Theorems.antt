@@ -8,9 +8,11 @@ use native.Mathlib.Omega.{arith}
 use lib.Dec.{leb}
 use lib.ListN.{length, drop, length-append, length-drop}
 use borrow.Author.Tests.{le-leb, leb-true}
+use Rattle.std.specs.Prelude.{Ok, Err}
 use Rattle.model.specs.declared.CallResult.{CallResult}
-use Rattle.model.specs.declared.Verdict.{Verdict}
-use Rattle.model.specs.declared.Verdict.TheVariants.{Good, Refused}
+use Rattle.model.specs.declared.Reason.TheVariants.{NoRoom}
+use Rattle.model.specs.declared.Refusal.{Refusal}
+use Rattle.model.specs.Refusals.{Verdict}
 use Rattle.model.specs.Reading.{read_of}
 use Rattle.model.specs.Results.{refusal}
 use Rattle.model.specs.Calls.{verdict_result, check_of}
@@ -42,19 +44,20 @@ one-print {r = r} {r'} a b = record {
 -- ---- every call, by its three cases
 
 module _ (t buffer : List ℕ) (P : PrintCall → Type 0) where
-  pub print-cases : ((read_of t).verdict ≡ Good → length (printed (tree_of t)) ≤ length buffer → P (printed_into buffer (printed (tree_of t))))
-      → ((read_of t).verdict ≡ Good → P (refused_print 51 0 buffer)) → ((n p : ℕ) → (read_of t).verdict ≡ Refused n p → P (refused_print n p buffer))
+  pub print-cases : ((read_of t).verdict ≡ Ok tt → length (printed (tree_of t)) ≤ length buffer → P (printed_into buffer (printed (tree_of t))))
+      → ((read_of t).verdict ≡ Ok tt → P (refused_print (record { reason = NoRoom; place = 0 }) buffer))
+      → ((r : Refusal) → (read_of t).verdict ≡ Err r → P (refused_print r buffer))
       → P (print_text_of t buffer)
   unfolding print_text_of print_table print_room
   print-cases fits full bad = go (read_of t).verdict refl
     where
-      fit : (read_of t).verdict ≡ Good → (b : Bool) → leb (length (printed (tree_of t))) (length buffer) ≡ b → P (print_room t buffer b)
+      fit : (read_of t).verdict ≡ Ok tt → (b : Bool) → leb (length (printed (tree_of t))) (length buffer) ≡ b → P (print_room t buffer b)
       fit e true d = fits e (leb-true (length (printed (tree_of t))) (length buffer) d)
       fit e false d = full e
 
       go : (v : Verdict) → (read_of t).verdict ≡ v → P (print_table t buffer v)
-      go Good e = fit e (leb (length (printed (tree_of t))) (length buffer)) refl
-      go (Refused n p) e = bad n p e
+      go (Ok u) e = fit e (leb (length (printed (tree_of t))) (length buffer)) refl
+      go (Err r) e = bad r e
 
 module _ (t buffer : List ℕ) where
   abbrev call : PrintCall
@@ -69,7 +72,7 @@ module _ (t buffer : List ℕ) where
   unfolding verdict_result
   result-is =
       print-cases t buffer (λ (o : PrintCall). (o.result ≡ check_of t) ⊎ (o.result ≡ refusal 51 0)) (λ e h. inl (checked e)) (λ e. inr refl)
-      (λ n p e. inl (checked e))
+      (λ r e. inl (checked e))
 
   -- "A refused call writes nothing."
   pub record Kept (o : PrintCall) : Type 0 where
@@ -79,7 +82,7 @@ module _ (t buffer : List ℕ) where
   pub refused-kept : (call.result.number ≡ 0 → ⊥) → Kept call
   refused-kept =
       print-cases t buffer (λ (o : PrintCall). (o.result.number ≡ 0 → ⊥) → Kept o) (λ e h d. absurd (d refl)) (λ e d. record { none = refl; bytes = refl })
-      (λ n p e d. record { none = refl; bytes = refl })
+      (λ r e d. record { none = refl; bytes = refl })
 
   -- the buffer keeps its length, whatever comes
   pub buffer-long : length call.text ≡ length buffer
@@ -87,9 +90,9 @@ module _ (t buffer : List ℕ) where
       print-cases t buffer (λ (o : PrintCall). length o.text ≡ length buffer)
       (λ e h. length-append (printed (tree_of t)) (drop (length (printed (tree_of t))) buffer)
       ∙ omega (arith, length-drop (length (printed (tree_of t))) buffer))
-      (λ e. refl) (λ n p e. refl)
+      (λ e. refl) (λ r e. refl)
 
   -- 65,536 bytes have room for every good table's text
-  pub always-room : AreBytes t → (read_of t).verdict ≡ Good → longest_text ≤ length buffer → call ≡ printed_into buffer (printed (tree_of t))
+  pub always-room : AreBytes t → (read_of t).verdict ≡ Ok tt → longest_text ≤ length buffer → call ≡ printed_into buffer (printed (tree_of t))
   unfolding print_text_of print_table print_room
   always-room u e h = rw (e, le-leb (length (printed (tree_of t))) (length buffer) (omega (arith, good-table-short t u e)))

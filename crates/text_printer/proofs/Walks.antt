@@ -1,19 +1,20 @@
 -- The declarations and the rules of a good table, one after the other: what is left of them is what is left of the text.
-use Prim.Native.Nat.{ℕ, zero, suc, ◌+◌, ◌-◌, ◌*◌, ◌≤◌, ◌<◌}
+use Prim.Native.Nat.{ℕ, suc, ◌+◌, ◌-◌, ◌*◌, ◌≤◌, ◌<◌}
 use mathlib.Core.Path.{◌≡◌, refl, sym, ap, ◌∙◌, subst}
-use mathlib.Core.Logic.{⊎_elim}
+use mathlib.Core.Logic.{⊎_elim, inl, inr}
 use mathlib.Core.Bool.{true}
 use mathlib.Core.List.{List, [], ◌∷◌, ◌++◌, map, append_assoc}
 use native.Mathlib.Omega.{arith}
 use native.Mathlib.Nat.{eq-zero-or-pos}
-use lib.ListN.{get_or, drop}
+use native.Mathlib.Numerals.{add-one}
+use lib.ListN.{length, get_or, take, drop}
+use Rattle.std.proofs.lemmas.List.{length-take-le, get_or-take}
 use Rattle.model.specs.declared.Slot.{Slot}
 use Rattle.model.specs.declared.Slot.TheVariants.{Unused, Constant, Variable, Bad}
 use Rattle.model.specs.declared.Expression.{Expression}
 use Rattle.model.specs.declared.Reading.{Reading}
 use Rattle.model.specs.declared.RuleShape.{RuleShape}
-use Rattle.model.specs.declared.Verdict.TheVariants.{Good}
-use Rattle.model.specs.Limits.{most_rules}
+use Rattle.std.specs.Prelude.{Ok}
 use Rattle.model.specs.Fields.{arity_at}
 use Rattle.model.specs.Reading.{no_shape, read_of}
 use Rattle.model.specs.Table.{Head, Guard, Rule, guards_from, guards_start, items_start, rule_of, rule_at, table_of}
@@ -23,79 +24,79 @@ use Rattle.model.proofs.Parts.{UsedSlot, GoodExpression, GoodGuard, rule-parts}
 use Rattle.grammar.specs.Layout.{arities_from, arities_of, rule_tree, tree_of}
 use Rattle.records.proofs.PartsLie.{heads-in, guards-in, items-lie}
 use Rattle.rule_weights.specs.Views.{Known}
-use Rattle.rule_weights.proofs.Turns.{known-good, few-rules, rule-good, read, rule-among, first, last, symbols-same}
+use Rattle.rule_weights.proofs.Turns.{known-good, few-rules, rule-good, read, first, last, symbols-same}
 use Rattle.text.specs.Printed.{decimal, symbol_text, declarations_text, printed}
+use Rattle.text_writing.specs.declared.Page.{Page}
 use Rattle.text_writing.specs.Written.{longest_text, Put}
 use Rattle.text_writing.specs.Parts.{some, slot_texts, expression_texts, each_text, rule_text, BothUsed, Printable}
-use Rattle.text_writing.proofs.Writes.{put-both}
-use Rattle.text_writing.proofs.Spelled.{expression-alone, expression-applied, constant-some, variable-some}
-use Rattle.rule_writing.proofs.Listed.{Left, left-all, left-none, left-step}
+use Rattle.text_writing.proofs.Writes.{put-both, Rest, rest-all, rest-more, rest-none}
+use Rattle.text_writing.proofs.Spelled.{used-some, expression-alone, expression-applied}
+use Rattle.rule_writing.proofs.Bracketed.{unit-more}
 use Rattle.rule_writing.proofs.Tokens.{printed-parts}
+
+-- ---- what is written so far: of a text whose parts have at most `unit` bytes the first i, and this is left of it
+
+pub record Left (unit : ℕ) (p : Page) (whole : List ℕ) (i : ℕ) (q : Page) (rest : List ℕ) : Type 0 where
+  pub text : Rest p whole q rest
+  pub few : q.at ≤ p.at + unit * i
+
+pub left-all : (unit : ℕ) (p : Page) (whole : List ℕ) → Left unit p whole 0 p whole
+left-all unit p whole = record { text = rest-all p whole; few = omega arith }
+
+module _ {unit : ℕ} {p : Page} {whole : List ℕ} {i : ℕ} {q : Page} {rest : List ℕ} (l : Left unit p whole i q rest) where
+  pub left-none : {n : ℕ} → i ≡ n → rest ≡ [] → Put p whole (unit * n) q
+  left-none {n} e none = rw (← e) (rest-none l.text (unit * i) none (omega (arith, l.few, l.text.place, ap length none)))
+
+  pub left-more : {x : List ℕ} {m : ℕ} {u : Page} → Put q x m u → m ≤ unit → (later : List ℕ) → rest ≡ x ++ later → Left unit p whole (i + 1) u later
+  left-more a h later e = record { text = rest-more l.text a later e; few = omega (arith, l.few, a.place, a.few, unit-more unit i) }
 
 -- ---- declarations
 
 -- `s0/2.` and a line end
-abbrev declaration : List ℕ → ℕ → List ℕ
+abbrev pub declaration : List ℕ → ℕ → List ℕ
 declaration t k = symbol_text k ++ (47 ∷ (decimal (arity_at t k) ++ (46 ∷ 10 ∷ [])))
 
-pub declaration-put : (t : List ℕ) (k : ℕ) {s : List ℕ} {at : ℕ} {u v w z : List ℕ} {a b c end n : ℕ} → n ≡ arity_at t k → Put s at (symbol_text k) 11 u a
-    → Put u a (47 ∷ []) 1 v b → Put v b (decimal n) 10 w c → Put w c (46 ∷ 10 ∷ []) 2 z end → Put s at (declaration t k) 24 z end
-declaration-put t k {n = n} e p q r o =
-    put-both p (put-both q (put-both r o _ 12 refl (omega arith)) _ 13 refl (omega arith)) (declaration t k) 24 (rw e) (omega arith)
+pub declaration-put : (t : List ℕ) (k : ℕ) {n : ℕ} → n ≡ arity_at t k → {p q u v w : Page} → Put p (symbol_text k) 11 q
+    → Put q (47 ∷ []) 1 u → Put u (decimal n) 10 v → Put v (46 ∷ 10 ∷ []) 2 w → Put p (declaration t k) 24 w
+declaration-put t k e a b c d =
+    put-both a (put-both b (put-both c d _ 12 refl (omega arith)) _ 13 refl (omega arith)) (declaration t k) 24 (rw e) (omega arith)
 
--- the last `left` of n
-abbrev pub DeclarationsLeft : List ℕ → ℕ → List ℕ → ℕ → List ℕ → List ℕ → ℕ → ℕ → Type 0
-DeclarationsLeft t n s₀ at whole s end left = Left 24 (24 * n) (left ≤ n) s₀ at whole s end (declarations_text (n - left) (arities_from t (n - left) left)) left
-
-module _ (t : List ℕ) where
-  one-declared : (k n : ℕ) → 0 < n → declarations_text k (arities_from t k n) ≡ declaration t k ++ declarations_text (suc k) (arities_from t (suc k) (n - 1))
+module _ (t : List ℕ) (i n : ℕ) where
+  pub one-declared : i < n
+      → declarations_text i (arities_from t i (n - i)) ≡ declaration t i ++ declarations_text (i + 1) (arities_from t (i + 1) (n - (i + 1)))
   unfolding declarations_text arities_from
-  one-declared k zero h = absurd (omega arith)
-  one-declared k (suc n) h =
-      let e : suc n - 1 ≡ n = omega arith in
-      let later = declarations_text (suc k) (arities_from t (suc k) n) in
-      rw e
-      (sym (append_assoc (symbol_text k) (47 ∷ (decimal (arity_at t k) ++ (46 ∷ 10 ∷ []))) later
-      ∙ ap (λ (l : List ℕ). symbol_text k ++ (47 ∷ l)) (append_assoc (decimal (arity_at t k)) (46 ∷ 10 ∷ []) later)))
+  one-declared h =
+      let e : n - i ≡ suc (n - (i + 1)) = omega arith in
+      let later = declarations_text (suc i) (arities_from t (suc i) (n - (i + 1))) in
+      subst (λ (j : ℕ). declarations_text i (arities_from t i (n - i)) ≡ declaration t i ++ declarations_text j (arities_from t j (n - (i + 1))))
+      (sym (add-one i))
+      (rw e (sym (append_assoc (symbol_text i) (47 ∷ (decimal (arity_at t i) ++ (46 ∷ 10 ∷ []))) later
+      ∙ ap (λ (l : List ℕ). symbol_text i ++ (47 ∷ l)) (append_assoc (decimal (arity_at t i)) (46 ∷ 10 ∷ []) later))))
 
-  pub declarations-begin : (n : ℕ) {s : List ℕ} {at : ℕ} → at + 24 * n ≤ longest_text
-      → DeclarationsLeft t n s at (declarations_text 0 (arities_from t 0 n)) s at n
-  declarations-begin n h = let e : n - n ≡ 0 = omega arith in rw e (left-all (declarations_text 0 (arities_from t 0 n)) (omega arith) h)
-
-  module _ (n : ℕ) {s₀ : List ℕ} {at : ℕ} {whole s : List ℕ} {end : ℕ} (left : ℕ) (l : DeclarationsLeft t n s₀ at whole s end left) where
-    pub declaration-more : 0 < left → {u : List ℕ} {next : ℕ} → Put s end (declaration t (n - left)) 24 u next
-        → DeclarationsLeft t n s₀ at whole u next (left - 1)
-    declaration-more h p =
-        let few : left ≤ n = l.lie in
-        let e : n - (left - 1) ≡ suc (n - left) = omega arith in
-        rw e
-        (left-step l (left - 1 ≤ n) (declaration t (n - left)) (declarations_text (suc (n - left)) (arities_from t (suc (n - left)) (left - 1))) h
-        (one-declared (n - left) left h) p (omega arith) (omega arith))
-
-    pub declarations-ended : left ≤ 0 → Put s₀ at whole (24 * n) s end
-    unfolding declarations_text arities_from
-    declarations-ended h = left-none l (let e : left ≡ 0 = omega arith in rw e)
+  pub all-declared : n ≤ i → declarations_text i (arities_from t i (n - i)) ≡ []
+  unfolding declarations_text arities_from
+  all-declared h = let e : n - i ≡ 0 = omega arith in rw e
 
 -- ---- a rule of a good table
 
-used-slot : (a : Slot) → UsedSlot a → true ≡ some (slot_texts a)
+used-slot : (a : Slot) → UsedSlot a → some (slot_texts a) ≡ true
 used-slot Unused u = absurd u
-used-slot (Constant z) u = constant-some (Constant z) refl
-used-slot (Variable v) u = variable-some (Variable v) refl
+used-slot (Constant z) u = sym (used-some (Constant z) (inl (z, refl)))
+used-slot (Variable v) u = sym (used-some (Variable v) (inr (v, refl)))
 used-slot Bad u = absurd u
 
 used-expression : (e : Expression) → GoodExpression e → some (expression_texts e) ≡ true
 used-expression e g =
-    ⊎_elim (λ (z : e.operation ≡ 0). sym (expression-alone e (used-slot e.left g.first) refl z))
-    (λ (h : 0 < e.operation). sym (expression-applied e (used-slot e.left g.first) refl (λ (z : e.operation ≡ 0). omega arith)
-    (used-slot e.right (g.second (omega arith)))))
+    ⊎_elim (λ (z : e.operation ≡ 0). sym (expression-alone e (used-slot e.left g.first) z))
+    (λ (h : 0 < e.operation). sym (expression-applied e (used-slot e.left g.first) (λ (z : e.operation ≡ 0). omega arith))
+    ∙ used-slot e.right (g.second (omega arith)))
     (eq-zero-or-pos e.operation)
 
 used-guard : (hs : List Head) (g : Guard) → GoodGuard hs g → BothUsed g
 used-guard hs g w = record { left = used-expression g.left w.left; right = used-expression g.right w.right }
 
 module _ {t : List ℕ} {r : Reading} (k : Known t r) where
-  pub good-read : (read_of t).verdict ≡ Good
+  pub good-read : (read_of t).verdict ≡ Ok tt
   good-read = sym (ap (λ (r : Reading). r.verdict) k.same) ∙ k.good
 
   module _ {i : ℕ} (h : i < r.rules) where
@@ -127,69 +128,59 @@ module _ {t : List ℕ} {r : Reading} (k : Known t r) where
 
 -- ---- rules
 
--- the last `left` of n rules, which are those of a reading
-pub record LastRules (t : List ℕ) (r : Reading) (n left : ℕ) : Type 0 where
-  pub known : Known t r
-  pub all : n ≡ r.rules
-  pub few : left ≤ n
-  pub few_rules : n ≤ most_rules
-
-abbrev rules_text : List ℕ → ℕ → List ℕ
+-- from a rule on
+abbrev pub rules_text : List ℕ → ℕ → List ℕ
 rules_text t i = each_text (map rule_text (map rule_tree (drop i (table_of t).rules)))
 
-abbrev pub RulesLeft : List ℕ → Reading → ℕ → List ℕ → ℕ → List ℕ → List ℕ → ℕ → ℕ → Type 0
-RulesLeft t r n s₀ at whole s end left = Left 989 (989 * n) (LastRules t r n left) s₀ at whole s end (rules_text t (n - left)) left
-
-pub rules-begin : {t : List ℕ} {r : Reading} {s : List ℕ} {at : ℕ} → Known t r → at + 989 * r.rules ≤ longest_text
-    → RulesLeft t r r.rules s at (each_text (map rule_text (tree_of t).rules)) s at r.rules
+pub rules-all : (t : List ℕ) → rules_text t 0 ≡ each_text (map rule_text (tree_of t).rules)
 unfolding tree_of
-rules-begin {t} {r} k h =
-    let e : r.rules - r.rules ≡ 0 = omega arith in
-    rw e (left-all (rules_text t 0) (record { known = k; all = refl; few = omega arith; few_rules = few-rules k }) h)
-
-module _ {t : List ℕ} {r : Reading} {n : ℕ} {s₀ : List ℕ} {at : ℕ} {whole s : List ℕ} {end : ℕ} {left : ℕ} (l : RulesLeft t r n s₀ at whole s end left) where
-  module _ (h : 0 < left) where
-    inside : n - left < r.rules
-    inside = omega (arith, l.lie.few, l.lie.all)
-
-    pub rule-printable : Printable t (get_or r.shapes (n - left) no_shape)
-    rule-printable = printable l.lie.known inside
-
-    pub shape-in : n - left < most_rules
-    shape-in = rule-among l.lie.known inside
-
-    one-ruled : rules_text t (n - left) ≡ rule_text (rule_tree (rule_of t (get_or r.shapes (n - left) no_shape))) ++ rules_text t (n - left + 1)
-    unfolding each_text
-    one-ruled = rw (first l.lie.known {i = n - left} inside)
-
-    pub rule-more : {u : List ℕ} {next : ℕ} → Put s end (rule_text (rule_tree (rule_of t (get_or r.shapes (n - left) no_shape)))) 989 u next
-        → RulesLeft t r n s₀ at whole u next (left - 1)
-    rule-more p =
-        let few : left ≤ n = l.lie.few in
-        let e : n - (left - 1) ≡ n - left + 1 = omega arith in
-        rw e
-        (left-step l (LastRules t r n (left - 1)) (rule_text (rule_tree (rule_of t (get_or r.shapes (n - left) no_shape))))
-        (rules_text t (n - left + 1)) h one-ruled p
-        (omega arith) (record { known = l.lie.known; all = l.lie.all; few = omega arith; few_rules = l.lie.few_rules }))
-
-  pub rules-ended : left ≤ 0 → Put s₀ at whole (989 * n) s end
-  unfolding each_text
-  rules-ended h = left-none l (rw (last l.lie.known {i = n - left} (omega (arith, l.lie.all))))
-
--- ---- the whole text
+rules-all t = refl
 
 module _ {t : List ℕ} {r : Reading} (k : Known t r) where
+  -- the shapes of the rules that there are
+  abbrev shapes : List RuleShape
+  shapes = take r.rules r.shapes
+
+  shapes-few : r.rules ≤ length r.shapes
+  shapes-few = rw k.same (omega (arith, (known-good k).shapes, (known-good k).few_rules))
+
+  many : length shapes ≡ r.rules
+  many = length-take-le r.rules r.shapes shapes-few
+
+  module _ {i : ℕ} (h : i < length shapes) where
+    inside : i < r.rules
+    inside = omega (arith, many)
+
+    same-shape : get_or shapes i no_shape ≡ get_or r.shapes i no_shape
+    same-shape = get_or-take r.rules r.shapes i no_shape inside
+
+    pub shape-printable : Printable t (get_or shapes i no_shape)
+    shape-printable = rw same-shape (printable k inside)
+
+    pub one-ruled : rules_text t i ≡ rule_text (rule_tree (rule_of t (get_or shapes i no_shape))) ++ rules_text t (i + 1)
+    unfolding each_text
+    one-ruled = rw (same-shape, first k inside)
+
+  pub all-ruled : {i : ℕ} → length shapes ≤ i → rules_text t i ≡ []
+  unfolding each_text
+  all-ruled {i} h = rw (last k {i = i} (omega (arith, many)))
+
+  pub rules-written : {i : ℕ} → i ≤ length shapes → length shapes ≤ i → i ≡ r.rules
+  rules-written h l = omega (arith, many)
+
+  -- ---- the whole text
+
   few-symbols : r.symbols ≤ 32
   few-symbols = rw k.same (known-good k).few_symbols
 
   pub declarations-room : 0 + 24 * r.symbols ≤ longest_text
   declarations-room = omega (arith, few-symbols)
 
-  pub rules-room : {bytes s u : List ℕ} {end : ℕ} → Put s 0 bytes (24 * r.symbols) u end → end + 989 * r.rules ≤ longest_text
-  rules-room p = omega (arith, few-symbols, few-rules k, p.place, p.few)
+  module _ {p q : Page} (e : p.at ≡ 0) (a : Put p (declarations_text 0 (arities_from t 0 r.symbols)) (24 * r.symbols) q) where
+    pub rules-room : q.at + 989 * r.rules ≤ longest_text
+    rules-room = omega (arith, few-symbols, few-rules k, a.place, a.few)
 
-  pub table-put : {s u v : List ℕ} {mid end : ℕ} → Put s 0 (declarations_text 0 (arities_from t 0 r.symbols)) (24 * r.symbols) u mid
-      → Put u mid (each_text (map rule_text (tree_of t).rules)) (989 * r.rules) v end → Put s 0 (printed (tree_of t)) longest_text v end
-  unfolding tree_of arities_of
-  table-put p q =
-      put-both p q (printed (tree_of t)) longest_text (rw (symbols-same k) (sym (printed-parts (tree_of t)))) (omega (arith, few-symbols, few-rules k))
+    pub table-put : {u : Page} → Put q (each_text (map rule_text (tree_of t).rules)) (989 * r.rules) u → Put p (printed (tree_of t)) longest_text u
+    unfolding tree_of arities_of
+    table-put b =
+        put-both a b (printed (tree_of t)) longest_text (rw (symbols-same k) (sym (printed-parts (tree_of t)))) (omega (arith, few-symbols, few-rules k))

@@ -1,5 +1,5 @@
--- Laws of reading a text.
+-- What holds of reading a text.
+pub mod Places
 pub mod Nexts
 pub mod Passes
-pub mod Places
 pub mod Gives

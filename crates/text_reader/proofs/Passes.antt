@@ -4,13 +4,14 @@ use mathlib.Core.Path.{◌≡◌, refl, sym, ap, ◌∙◌, subst}
 use mathlib.Core.Bool.{Bool, true, false}
 use mathlib.Core.List.{List, [], ◌∷◌}
 use native.Mathlib.Omega.{arith}
-use lib.ListN.{length, drop, set, length-append}
-use Rattle.grammar.specs.Tree.{TableTree}
+use lib.ListN.{length, set, length-append}
+use Rattle.std.specs.Prelude.{Option, Some, None, Result, Ok, Err}
+use Rattle.model.specs.declared.Reason.TheVariants.{NoToken, NoGrammarRule}
+use Rattle.model.specs.declared.Refusal.{Refusal}
+use Rattle.model.specs.Refusals.{refused}
 use Rattle.grammar.specs.Encode.{encode}
-use Rattle.text.specs.Token.{is_slot}
-use Rattle.text.specs.Tokens.{Lexed, end, no_token, next, lexed_from, lexed}
-use Rattle.tokens.specs.Views.{token_of, Sane}
-use Rattle.tokens.specs.declared.Token.{Token as CodeToken}
+use Rattle.text.specs.Tokens.{Lexed, end, no_token, next, lexed}
+use Rattle.tokens.specs.Views.{token_of}
 use Rattle.parsing.specs.Progress.{first, second, Progress, declared, named, slashed, sized, ruled, head_named, head_wants, head_slot, head_done, head_next}
 use Rattle.parsing.specs.Progress.{headed, wants, term, operated, formed, body, emptied, item_named, item_done, item_next}
 use Rattle.parsing.specs.Progress as reading
@@ -21,11 +22,10 @@ use Rattle.assembly.specs.Moves.{here, moved, is_stuck, ends}
 use Rattle.assembly.specs.Advances.{GroupNear, GroupIn, PhaseNear, Advanced}
 use Rattle.assembled.specs.Holds.{behind, table_bytes, head_of, rule_front, heads_front, front_of, phase_of, group_of, Held, Holds}
 use Rattle.assembled.proofs.Follows.{holds-begins, holds-step, told-stuck, free-step, holds-whole, ends-whole, open-whole, moved-near}
-use Rattle.text_reader.specs.declared.Next.{Next}
-use Rattle.text_reader.specs.declared.Next.TheVariants.{Token, Strange, End}
-use Rattle.text_reader.specs.declared.Passed.{Passed}
-use Rattle.text_reader.specs.declared.Passed.TheVariants.{Whole, NoToken, Wrong, Unfinished}
-use Rattle.text_reader.specs.Passing.{lexed_next, NextSane, NextIs, passed_of, HeldBy, PassedIs, Blank, FinishedBy, Finished}
+use Rattle.text_reader.specs.declared.lexing.Placed.{Placed}
+use Rattle.text_reader.specs.declared.lexing.Tokens.{Tokens}
+use Rattle.text_reader.specs.Lexing.{lexed_in, lexed_next, NextGood, NextIs}
+use Rattle.text_reader.specs.Passing.{passed_of, HeldBy, PassedIs, Blank, FinishedBy, Finished}
 
 -- ---- behind a wrong token
 
@@ -36,34 +36,33 @@ wrong-held p (no_token q) buf = tt
 wrong-held p (next q t more) buf = wrong-held p more buf
 
 -- what is left gives the whole
-pub record Left (text : List ℕ) (p : ℕ) (o : Parsed) (at : ℕ) (after : Bool) : Type 0 where
-  pub same : o ≡ wrong_from p (lexed_from 0 after at (drop at text))
-  pub within : at ≤ length text
+pub record Left (p : ℕ) (o : Parsed) (tokens : Tokens) : Type 0 where
+  pub same : o ≡ wrong_from p (lexed_in tokens)
 
-module _ {text : List ℕ} {p : ℕ} where
-  pub left-begins : (at : ℕ) (after : Bool) → at ≤ length text → Left text p (wrong_from p (lexed_from 0 after at (drop at text))) at after
-  left-begins at after h = record { same = refl; within = h }
+module _ {p : ℕ} where
+  pub left-begins : (tokens : Tokens) → Left p (wrong_from p (lexed_in tokens)) tokens
+  left-begins tokens = record { same = refl }
 
-  module _ {o : Parsed} {at : ℕ} {after : Bool} (l : Left text p o at after) {r : Next} (n : NextIs text at after r) where
-    after-next : {r' : Next} → r ≡ r' → o ≡ wrong_from p (lexed_next text r')
-    after-next e = l.same ∙ ap (wrong_from p) (n.same ∙ ap (lexed_next text) e)
+  module _ {o : Parsed} {before after : Tokens} (l : Left p o before) {r : Option (Result Placed Refusal)} (n : NextIs before after r) where
+    after-next : {r' : Option (Result Placed Refusal)} → r ≡ r' → o ≡ wrong_from p (lexed_next after r')
+    after-next e = l.same ∙ ap (wrong_from p) (n.same ∙ ap (lexed_next after) e)
 
-    pub left-done : r ≡ End → Wrong p ≡ passed_of o
+    pub left-done : {f : Refusal} → r ≡ None → f ≡ record { reason = NoGrammarRule; place = p } → (n : ℕ) → Err f ≡ passed_of n o
     unfolding wrong_from
-    left-done e = ap passed_of (sym (after-next e))
+    left-done e is n = rw (is, after-next e)
 
-    pub left-strange : {q : ℕ} → r ≡ Strange q → NoToken q ≡ passed_of o
+    pub left-strange : {f : Refusal} → r ≡ Some (Err f) → (n : ℕ) → Err f ≡ passed_of n o
     unfolding wrong_from
-    left-strange e = ap passed_of (sym (after-next e))
+    left-strange {f} e m =
+        let good : f.reason ≡ NoToken = subst (NextGood before after) e n.good in
+        rw (after-next e, ← good)
 
-    pub left-more : {t : CodeToken} {q e : ℕ} {slot : Bool} → r ≡ Token t q e → slot ≡ is_slot (token_of t) → Left text p o e slot
+    pub left-more : {k : Placed} → r ≡ Some (Ok k) → Left p o after
     unfolding wrong_from
-    left-more {t} {q} {e} d f =
-        let sane : NextSane text at (Token t q e) = subst (NextSane text at) d n.sane in
-        rw f (record { same = after-next d; within = sane.1.1 })
+    left-more e = record { same = after-next e }
 
-    pub left-on : {t : CodeToken} {q e : ℕ} → r ≡ Token t q e → at < e
-    left-on {t} {q} {e} d = let sane : NextSane text at (Token t q e) = subst (NextSane text at) d n.sane in sane.1.0
+    pub left-less : {k : Placed} → r ≡ Some (Ok k) → length after.rest.now < length before.rest.now
+    left-less {k} e = let good : NextGood before after (Some (Ok k)) = subst (NextGood before after) e n.good in good.0
 
 -- ---- where the places of a phase lie
 
@@ -111,100 +110,98 @@ holds-near {s} {a} {buf} h n = record {
 
 -- ---- a pass
 
-pub record Reads (text : List ℕ) (at : ℕ) (after : Bool) (a : Assembly) (buf : List ℕ) : Type 0 where
+pub record Reads (text : List ℕ) (tokens : Tokens) (a : Assembly) (buf : List ℕ) : Type 0 where
   pub progress : Progress
-  pub same : parsed (lexed text) ≡ parsed_from progress (lexed_from 0 after at (drop at text))
+  pub same : parsed (lexed text) ≡ parsed_from progress (lexed_in tokens)
   pub holds : Holds progress a buf
-  pub within : at ≤ length text
-  pub near : a.at ≤ 46 * at
+  pub long : tokens.at + length tokens.rest.now ≡ length text
+  pub near : a.at ≤ 46 * tokens.at
 
-pub reads-begin : {text : List ℕ} {a : Assembly} {buf : List ℕ} → a ≡ here 0 Declared → Blank buf → Reads text 0 false a buf
+pub reads-begin : {text : List ℕ} {tokens : Tokens} {a : Assembly} {buf : List ℕ} → tokens.rest.now ≡ text → tokens.at ≡ 0 → tokens.after ≡ false
+    → a ≡ here 0 Declared → Blank buf → Reads text tokens a buf
 unfolding parsed lexed
-reads-begin {text} {a} {buf} e b =
+reads-begin {text} {tokens} {a} {buf} all zero fresh e b =
     rw e (record {
       progress = declared [];
-      same = refl;
+      same = rw (all, zero, fresh);
       holds = subst (Holds (declared []) (here 0 Declared)) (sym b.zeros) (holds-begins (length buf));
-      within = omega arith;
+      long = omega (arith, ap length all, zero);
       near = omega arith;
     })
 
-module _ {text : List ℕ} {at : ℕ} {after : Bool} {a : Assembly} {buf : List ℕ} (q : Reads text at after a buf) where
-  pub reads-near : length text ≤ 65536 → PhaseNear a.at a.phase
-  reads-near h = holds-near q.holds (omega (arith, q.near, q.within))
+module _ {text : List ℕ} {tokens : Tokens} {a : Assembly} {buf : List ℕ} (short : length text ≤ 65536) (q : Reads text tokens a buf) where
+  pub reads-near : PhaseNear a.at a.phase
+  reads-near = holds-near q.holds (omega (arith, q.near, q.long))
 
-  pub reads-at : length text ≤ 65536 → a.at ≤ 4294967296
-  reads-at h = omega (arith, q.near, q.within)
+  pub reads-at : a.at ≤ 4294967296
+  reads-at = omega (arith, q.near, q.long)
 
-  module _ {r : Next} (n : NextIs text at after r) where
-    on-next : {r' : Next} → r ≡ r' → parsed (lexed text) ≡ parsed_from q.progress (lexed_next text r')
-    on-next e = q.same ∙ ap (parsed_from q.progress) (n.same ∙ ap (lexed_next text) e)
+  module _ {after : Tokens} {r : Option (Result Placed Refusal)} (n : NextIs tokens after r) where
+    on-next : {r' : Option (Result Placed Refusal)} → r ≡ r' → parsed (lexed text) ≡ parsed_from q.progress (lexed_next after r')
+    on-next e = q.same ∙ ap (parsed_from q.progress) (n.same ∙ ap (lexed_next after) e)
 
-    pub reads-strange : {p : ℕ} → r ≡ Strange p → PassedIs (parsed (lexed text)) (NoToken p) buf
+    pub reads-strange : {f : Refusal} → r ≡ Some (Err f) → PassedIs (length text) (parsed (lexed text)) (Err f) buf
     unfolding parsed_from
-    reads-strange e = rw (on-next e) (record { same = refl; held = tt })
+    reads-strange {f} e =
+        let good : f.reason ≡ NoToken = subst (NextGood tokens after) e n.good in
+        rw (on-next e) (record { same = rw (← good); held = tt })
 
-    end-by : {r' : Passed} {buf' : List ℕ} (b : Bool) → ends a.phase ≡ b → FinishedBy b a.at buf r' buf' → PassedIs (ended (whole q.progress)) r' buf'
+    end-by : {o : Option ℕ} {r' : Result ℕ Refusal} {buf' : List ℕ} (b : Bool) → ends a.phase ≡ b → FinishedBy b a.at buf o buf'
+        → ((n : ℕ) → o ≡ Some n → r' ≡ Ok n) → (o ≡ None → r' ≡ refused NoGrammarRule (length text))
+        → PassedIs (length text) (ended (whole q.progress)) r' buf'
     unfolding ended
-    end-by true e f =
+    end-by true e f there none =
         let w = ends-whole q.holds e in
         let h = holds-whole q.holds w.1 in
-        rw w.1 (record { same = f.0 ∙ ap Whole h.0; held = subst (λ (b : List ℕ). Held b (encode w.0)) (sym f.1) h.1 })
-    end-by false e f = rw (open-whole q.holds e) (record { same = f; held = tt })
+        rw w.1 (record { same = there (a.at + 1) f.0 ∙ ap Ok h.0; held = subst (λ (b : List ℕ). Held b (encode w.0)) (sym f.1) h.1 })
+    end-by false e f there none = rw (open-whole q.holds e) (record { same = none f.0; held = tt })
 
-    pub reads-end : {r' : Passed} {buf' : List ℕ} → r ≡ End → Finished a buf r' buf' → PassedIs (parsed (lexed text)) r' buf'
+    pub reads-end : {o : Option ℕ} {r' : Result ℕ Refusal} {buf' : List ℕ} → r ≡ None → Finished a buf o buf'
+        → ((n : ℕ) → o ≡ Some n → r' ≡ Ok n) → (o ≡ None → r' ≡ refused NoGrammarRule (length text))
+        → PassedIs (length text) (parsed (lexed text)) r' buf'
     unfolding parsed_from
-    reads-end e f = rw (on-next e) (end-by (ends a.phase) refl f.by)
+    reads-end e f there none = rw (on-next e) (end-by (ends a.phase) refl f.by there none)
 
     -- a token
-    module _ {t : CodeToken} {p e : ℕ} (d : r ≡ Token t p e) where
-      sane : NextSane text at (Token t p e)
-      sane = subst (NextSane text at) d n.sane
+    module _ {k : Placed} (d : r ≡ Some (Ok k)) where
+      good : NextGood tokens after (Some (Ok k))
+      good = subst (NextGood tokens after) d n.good
 
-      pub reads-sane : Sane t
-      reads-sane = sane.0
+      pub reads-less : length after.rest.now < length tokens.rest.now
+      reads-less = good.0
 
-      pub reads-on : at < e
-      reads-on = sane.1.0
-
-      pub reads-inside : e ≤ length text
-      reads-inside = sane.1.1
-
-      module _ {to : Assembly} {buf' : List ℕ} (m : Advanced (moved a (token_of t)) buf to buf') {b slot : Bool} (f : slot ≡ is_slot (token_of t)) where
-        flag : b ≡ is_stuck to.phase → is_stuck (moved a (token_of t)).to.phase ≡ b
+      module _ {to : Assembly} {buf' : List ℕ} (m : Advanced (moved a (token_of k.token)) buf to buf') {b : Bool} where
+        flag : b ≡ is_stuck to.phase → is_stuck (moved a (token_of k.token)).to.phase ≡ b
         flag g = ap (λ (x : Assembly). is_stuck x.phase) (sym m.to) ∙ sym g
 
-        pub reads-wrong : {r' : Passed} → b ≡ is_stuck to.phase → b ≡ true → r' ≡ passed_of (wrong_from p (lexed_from 0 slot e (drop e text)))
-            → PassedIs (parsed (lexed text)) r' buf'
+        pub reads-wrong : {f : Refusal} → b ≡ is_stuck to.phase → b ≡ true → ((n : ℕ) → Err f ≡ passed_of n (wrong_from k.place (lexed_in after)))
+            → PassedIs (length text) (parsed (lexed text)) (Err f) buf'
         unfolding parsed_from go_on
-        reads-wrong g h k =
-            rw (on-next d, told-stuck (token_of t) q.holds (flag g ∙ h))
-            (record {
-              same = k ∙ ap (λ (x : Bool). passed_of (wrong_from p (lexed_from 0 x e (drop e text)))) f;
-              held = wrong-held p (lexed_from 0 (is_slot (token_of t)) e (drop e text)) buf';
-            })
+        reads-wrong g h e =
+            rw (on-next d, told-stuck (token_of k.token) q.holds (flag g ∙ h))
+            (record { same = e (length text); held = wrong-held k.place (lexed_in after) buf' })
 
-        pub reads-more : b ≡ is_stuck to.phase → b ≡ false → Reads text e slot to buf'
+        pub reads-more : b ≡ is_stuck to.phase → b ≡ false → Reads text after to buf'
         unfolding parsed_from go_on
         reads-more g h =
-            let y = free-step (token_of t) q.holds (flag g ∙ h) in
-            let z = holds-step (token_of t) q.holds y.1 in
-            rw f (record {
+            let y = free-step (token_of k.token) q.holds (flag g ∙ h) in
+            let z = holds-step (token_of k.token) q.holds y.1 in
+            record {
               progress = y.0;
               same = on-next d ∙ rw y.1;
-              holds = subst (λ (x : Assembly). Holds y.0 x buf') (sym m.to) (subst (Holds y.0 (moved a (token_of t)).to) (sym m.bytes) z);
-              within = sane.1.1;
-              near = omega (arith, q.near, sane.1.0, moved-near a (token_of t), ap (λ (x : Assembly). x.at) m.to);
-            })
+              holds = subst (λ (x : Assembly). Holds y.0 x buf') (sym m.to) (subst (Holds y.0 (moved a (token_of k.token)).to) (sym m.bytes) z);
+              long = omega (arith, good.1.1, q.long);
+              near = omega (arith, q.near, good.0, good.1.1, moved-near a (token_of k.token), ap (λ (x : Assembly). x.at) m.to);
+            }
 
 -- ---- the end of a text
 
-pub finish-open : {a : Assembly} {s : List ℕ} {b : Bool} → b ≡ ends a.phase → b ≡ false → Finished a s Unfinished s
+pub finish-open : {a : Assembly} {s : List ℕ} {b : Bool} → b ≡ ends a.phase → b ≡ false → Finished a s None s
 finish-open {a} {s} {b} e h =
     let d : ends a.phase ≡ false = sym e ∙ h in
-    record { by = subst (λ (x : Bool). FinishedBy x a.at s Unfinished s) (sym d) refl }
+    record { by = subst (λ (x : Bool). FinishedBy x a.at s None s) (sym d) (refl, refl) }
 
-pub finish-there : {a : Assembly} {s s' : List ℕ} {b : Bool} → b ≡ ends a.phase → b ≡ true → s' ≡ set s a.at 8 → Finished a s (Whole (a.at + 1)) s'
+pub finish-there : {a : Assembly} {s s' : List ℕ} {b : Bool} → b ≡ ends a.phase → b ≡ true → s' ≡ set s a.at 8 → Finished a s (Some (a.at + 1)) s'
 finish-there {a} {s} {s'} {b} e h k =
     let d : ends a.phase ≡ true = sym e ∙ h in
-    record { by = subst (λ (x : Bool). FinishedBy x a.at s (Whole (a.at + 1)) s') (sym d) (refl, k) }
+    record { by = subst (λ (x : Bool). FinishedBy x a.at s (Some (a.at + 1)) s') (sym d) (refl, k) }

@@ -1,7 +1,7 @@
 -- The places of 49 and 50 lie inside the text: each is the place of a token, or of a byte at which there is none.
 use Prim.Native.Nat.{ℕ, zero, suc, ◌+◌, ◌-◌, ◌<◌, ◌≤◌}
 use mathlib.Core.Bool.{Bool, true, false, cond}
-use mathlib.Core.Option.{Option, none, some}
+use Rattle.std.specs.Prelude.{Option, None, Some}
 use mathlib.Core.List.{List, [], ◌∷◌}
 use native.Mathlib.Omega.{arith}
 use lib.ListN.{length}
@@ -52,14 +52,14 @@ wrong-near m p (next q t more) h n = wrong-near m p more h n.1
 
 ended-near : (m : ℕ) (o : Option TableTree) → ParsedNear m (ended o)
 unfolding ended
-ended-near m none = tt
-ended-near m (some w) = tt
+ended-near m None = tt
+ended-near m (Some w) = tt
 
 go-near : (m p : ℕ) (more : Lexed) (on : Progress → Parsed) (o : Option Progress) → p < m → LexedNear m more → ((s : Progress) → ParsedNear m (on s))
     → ParsedNear m (go_on p more on o)
 unfolding go_on
-go-near m p more on none h n k = wrong-near m p more h n
-go-near m p more on (some s) h n k = k s
+go-near m p more on None h n k = wrong-near m p more h n
+go-near m p more on (Some s) h n k = k s
 
 parsed-from-near : (m : ℕ) (s : Progress) (l : Lexed) → LexedNear m l → ParsedNear m (parsed_from s l)
 unfolding parsed_from

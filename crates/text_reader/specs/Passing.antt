@@ -1,50 +1,25 @@
--- What the parts of reading come to: the next token, and a pass over the text.
-use Rattle.std.specs.Prelude.{ℕ, ◌+◌, ◌<◌, ◌≤◌, ◌≡◌, ◌⊎◌, Bool, true, false, List, length, drop, get_or, set, replicate}
+-- What the parts of reading come to: a pass over the text, and the call.
+use Rattle.std.specs.Prelude.{ℕ, ◌+◌, ◌≡◌, Bool, true, false, Option, Some, None, Result, Ok, Err, List, length, set, replicate}
+use Rattle.model.specs.declared.Reason.TheVariants.{NoToken, NoGrammarRule}
+use Rattle.model.specs.declared.Refusal.{Refusal}
+use Rattle.model.specs.Results.{refusal, refused_result}
+use Rattle.model.specs.Refusals.{refused}
 use Rattle.grammar.specs.Encode.{encode}
-use Rattle.text.specs.Token.{is_slot}
-use Rattle.text.specs.Spelling.{is_blank}
-use Rattle.text.specs.Tokens.{Lexed, end, no_token, next, lexed_from}
-use Rattle.tokens.specs.Views.{token_of, Sane}
 use Rattle.parsing.specs.Parsed.{Parsed, tree, strange, wrong, unfinished}
 use Rattle.assembly.specs.declared.Assembly.{Assembly}
 use Rattle.assembly.specs.Moves.{ends}
 use Rattle.assembled.specs.Holds.{Held}
-use Rattle.text_reader.specs.declared.Next.{Next}
-use Rattle.text_reader.specs.declared.Next.TheVariants.{Token, Strange, End}
-use Rattle.text_reader.specs.declared.Passed.{Passed}
-use Rattle.text_reader.specs.declared.Passed.TheVariants.{Whole, NoToken, Wrong, Unfinished}
 use Rattle.text_reader.specs.ReadText.{ReadCall, read_room}
 use Rattle.text_reader.specs.declared.TextRead.{TextRead}
 
--- behind blanks, from `from` to r
-pub record Skipped (text : List ℕ) (from r : ℕ) : Type 0 where
-  pub same : (after : Bool) → lexed_from 0 after from (drop from text) ≡ lexed_from 0 after r (drop r text)
-  pub on : from ≤ r
-  pub within : r ≤ length text
-  pub bare : r < length text → is_blank (get_or text r 0) ≡ false
-
--- the tokens from a place on, by the next one
-abbrev pub lexed_next : List ℕ → Next → Lexed
-lexed_next text (Token t p e) = next p (token_of t) (lexed_from 0 (is_slot (token_of t)) e (drop e text))
-lexed_next text (Strange p) = no_token p
-lexed_next text End = end
-
-abbrev pub NextSane : List ℕ → ℕ → Next → Type 0
-NextSane text from (Token t p e) = Sane t × ((from < e) × (e ≤ length text))
-NextSane text from (Strange p) = p < length text
-NextSane text from End = Unit {0}
-
-pub record NextIs (text : List ℕ) (from : ℕ) (after : Bool) (r : Next) : Type 0 where
-  pub same : lexed_from 0 after from (drop from text) ≡ lexed_next text r
-  pub sane : NextSane text from r
-
 -- ---- a pass
 
-abbrev pub passed_of : Parsed → Passed
-passed_of (tree w) = Whole (length (encode w))
-passed_of (strange p) = NoToken p
-passed_of (wrong p) = Wrong p
-passed_of unfinished = Unfinished
+-- the length of a text's table, or the refusal of the text, which is of n bytes
+abbrev pub passed_of : ℕ → Parsed → Result ℕ Refusal
+passed_of n (tree w) = Ok (length (encode w))
+passed_of n (strange p) = refused NoToken p
+passed_of n (wrong p) = refused NoGrammarRule p
+passed_of n unfinished = refused NoGrammarRule n
 
 -- a whole text's table is in the buffer, as far as it goes
 abbrev pub HeldBy : Parsed → List ℕ → Type 0
@@ -53,8 +28,8 @@ HeldBy (strange p) buf = Unit {0}
 HeldBy (wrong p) buf = Unit {0}
 HeldBy unfinished buf = Unit {0}
 
-pub record PassedIs (o : Parsed) (r : Passed) (buf : List ℕ) : Type 0 where
-  pub same : r ≡ passed_of o
+pub record PassedIs (n : ℕ) (o : Parsed) (r : Result ℕ Refusal) (buf : List ℕ) : Type 0 where
+  pub same : r ≡ passed_of n o
   pub held : HeldBy o buf
 
 -- a buffer of zeros
@@ -62,26 +37,28 @@ pub record Blank (buf : List ℕ) : Type 0 where
   pub zeros : buf ≡ replicate (length buf) 0
 
 -- the end of a text: the byte that ends the table is laid, where a text may end
-abbrev pub FinishedBy : Bool → ℕ → List ℕ → Passed → List ℕ → Type 0
-FinishedBy true at before r after = (r ≡ Whole (at + 1)) × (after ≡ set before at 8)
-FinishedBy false at before r after = r ≡ Unfinished
+abbrev pub FinishedBy : Bool → ℕ → List ℕ → Option ℕ → List ℕ → Type 0
+FinishedBy true at before r after = (r ≡ Some (at + 1)) × (after ≡ set before at 8)
+FinishedBy false at before r after = (r ≡ None) × (after ≡ before)
 
-pub record Finished (a : Assembly) (before : List ℕ) (r : Passed) (after : List ℕ) : Type 0 where
+pub record Finished (a : Assembly) (before : List ℕ) (r : Option ℕ) (after : List ℕ) : Type 0 where
   pub by : FinishedBy (ends a.phase) a.at before r after
 
 -- ---- the call
-
--- the smaller of two
-pub record Least (n m r : ℕ) : Type 0 where
-  pub first : r ≤ n
-  pub second : r ≤ m
-  pub one : (r ≡ n) ⊎ ((r ≡ m) × (m ≤ n))
 
 pub record TextGiven (o : ReadCall) (r : TextRead) (after : List ℕ) : Type 0 where
   pub result : r.result ≡ o.result
   pub length : r.length ≡ o.length
   pub bytes : after ≡ o.table
 
+-- how many bytes were written, or the refusal
+abbrev pub text_read : Result ℕ Refusal → TextRead
+text_read (Ok n) = record { result = refusal 0 0; length = n }
+text_read (Err r) = record { result = refused_result r; length = 0 }
+
+pub record TextIs (o : ReadCall) (r : Result ℕ Refusal) (after : List ℕ) : Type 0 where
+  pub given : TextGiven o (text_read r) after
+
 -- a table t of n bytes, of which the room holds what it can
-pub record RoomGiven (assembled : List ℕ) (n : ℕ) (before : List ℕ) (r : TextRead) (after : List ℕ) : Type 0 where
-  pub gives : (text t : List ℕ) → n ≡ length t → Held assembled t → TextGiven (read_room text before t) r after
+pub record RoomGiven (assembled : List ℕ) (n : ℕ) (before : List ℕ) (r : Result ℕ Refusal) (after : List ℕ) : Type 0 where
+  pub gives : (text t : List ℕ) → n ≡ length t → Held assembled t → TextIs (read_room text before t) r after

@@ -1,37 +1,55 @@
 // The tokens of a text, one after the other.
-ghost use Rattle.std.specs.Prelude.{◌≡◌, ◌≤◌, length};
-ghost use Rattle.text_reader.specs.Passing.{Skipped, NextIs};
+ghost use Rattle.std.specs.Prelude.{◌≡◌, ◌+◌, ◌≤◌, length, not, position};
+ghost use Rattle.text.specs.Spelling.{is_blank};
 
-use crate::Next;
+use model::{Reason, Refusal};
 use tokens::bytes::is_blank;
-use tokens::{Found, token_at};
+use tokens::{Token, is_slot, token_at};
 
-// Behind the blanks at a place.
-fn behind_blanks(text: &[u8], from: usize) -> usize
-    requires { from ≤ length text.now }
-    ensures { Skipped text.now from result }
-{
-    let mut at = from;
-    while at < text.len() {
-        if !is_blank(text[at]) {
-            return at;
-        }
-        at += 1;
-    }
-    at
+// A token and the place of its first byte.
+#[derive(Clone, Copy)]
+pub struct Placed {
+    pub place: u32,
+    pub token: Token,
 }
 
-// The token behind the blanks at a place; `after` says whether the token before it is a constant or a variable.
-pub fn next(text: &[u8], from: usize, after: bool) -> Next
-    requires { from ≤ length text.now }
-    ensures { NextIs text.now from after result }
+// The bytes of a text from a place on, and whether the token before is a constant or a variable.
+#[derive(Clone, Copy)]
+pub struct Tokens<'a> {
+    pub rest: &'a [u8],
+    pub at: usize,
+    pub after: bool,
+    ghost fits: { at + length rest.now ≤ 65536 },
+}
+
+// Where the first byte is that is no blank.
+fn first_byte(rest: &[u8]) -> Option<usize>
+    ensures { result ≡ position (λ b. not (is_blank b)) rest.now }
 {
-    let at = behind_blanks(text, from);
-    if text.len() <= at {
-        return Next::End;
-    }
-    match token_at(text, at, after) {
-        Found::Token(t, n) => Next::Token(t, at, at + n),
-        Found::Nothing => Next::Strange(at),
+    rest.iter().position(|&b| !is_blank(b))
+}
+
+impl Tokens<'_> {
+    ghost use Rattle.text_reader.specs.Lexing.{NextIs};
+
+    // The next token; a refusal where there is none, and None at the end.
+    #[tactic(auto, using(crate::proofs::Nexts::next_rules))]
+    pub fn next(&mut self) -> Option<Result<Placed, Refusal>>
+        ensures { NextIs self.old self.new result }
+    {
+        let blanks = first_byte(self.rest)?;
+        let rest = &self.rest[blanks..];
+        let place = self.at + blanks;
+        let Some(spelled) = token_at(rest, self.after) else {
+            return Some(Err(Refusal::at(Reason::NoToken, place)));
+        };
+        let token = spelled.token;
+        self.rest = &rest[spelled.length..];
+        self.at = place + spelled.length;
+        self.after = is_slot(token);
+        Some(Ok(Placed {
+            place: place as u32,
+            token,
+        }))
     }
 }

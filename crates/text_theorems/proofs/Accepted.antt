@@ -5,7 +5,7 @@ use mathlib.Core.Path.{◌≡◌, ap}
 use mathlib.Core.Logic.{◌↔◌}
 use mathlib.Core.List.{List, ◌++◌}
 use lib.ListN.{length, drop}
-use Rattle.model.specs.declared.Verdict.TheVariants.{Good}
+use Rattle.std.specs.Prelude.{Ok}
 use Rattle.model.specs.Results.{refusal}
 use Rattle.model.specs.Reading.{read_of}
 use Rattle.model.specs.Calls.{verdict_result, check_of}
@@ -68,7 +68,7 @@ checked-exactly text table = (there (way text table), back)
     back : (w : TableTree) × Accepted text table w → (read_text_of text table).result.number ≡ 0
     back x = number-of _ _ (accepted-gives text table x.0 x.1)
 
-pub good-check : (t : List ℕ) → (read_of t).verdict ≡ Good → (check_of t).number ≡ 0
+pub good-check : (t : List ℕ) → (read_of t).verdict ≡ Ok tt → (check_of t).number ≡ 0
 unfolding check_of verdict_result
 good-check t e = rw e
 

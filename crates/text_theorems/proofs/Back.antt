@@ -5,7 +5,9 @@ use mathlib.Core.List.{List, ◌++◌}
 use native.Mathlib.Omega.{arith}
 use lib.ListN.{length, take, drop}
 use lib.Seq.{take_at}
-use Rattle.model.specs.declared.Verdict.TheVariants.{Good, Refused}
+use Rattle.std.specs.Prelude.{Ok, Err}
+use Rattle.model.specs.declared.Refusal.{Refusal}
+use Rattle.model.specs.Refusals.{Verdict}
 use Rattle.model.specs.Results.{refusal}
 use Rattle.model.specs.Reading.{read_of}
 use Rattle.model.proofs.Ranges.{AreBytes}
@@ -34,7 +36,7 @@ pub tree-reads-back : (w : TableTree) → WellFormed w → (buffer : List ℕ) �
 tree-reads-back w f buffer r = accepted-gives (printed w) buffer w (formed-accepted (printed w) buffer w (printed-text w f (printed-short w f)) f r)
 
 -- A good table, printed, is read back to the same bytes, with six zeros, wherever there is room for it.
-pub printed-reads-back : (t : List ℕ) → AreBytes t → (read_of t).verdict ≡ Good → (buffer : List ℕ) → length t ≤ length buffer
+pub printed-reads-back : (t : List ℕ) → AreBytes t → (read_of t).verdict ≡ Ok tt → (buffer : List ℕ) → length t ≤ length buffer
     → read_text_of (printed (tree_of t)) buffer ≡ gives t buffer
 printed-reads-back t u e buffer r =
     let g = good-encodes t u e in
@@ -42,7 +44,7 @@ printed-reads-back t u e buffer r =
     (tree-reads-back (tree_of t) g.formed buffer (rw g.bytes r))
 
 -- The two calls, one behind the other: what printing a table wrote, where its number is 0, is read back to the same bytes.
-pub print-then-read : (t text_buffer : List ℕ) → AreBytes t → (read_of t).verdict ≡ Good → (print_text_of t text_buffer).result.number ≡ 0
+pub print-then-read : (t text_buffer : List ℕ) → AreBytes t → (read_of t).verdict ≡ Ok tt → (print_text_of t text_buffer).result.number ≡ 0
     → (buffer : List ℕ) → length t ≤ length buffer
     → read_text_of (take (print_text_of t text_buffer).length (print_text_of t text_buffer).text) buffer ≡ gives t buffer
 print-then-read t text_buffer u e =
@@ -51,12 +53,12 @@ print-then-read t text_buffer u e =
     (λ d h z buffer r. rw (take_at (printed (tree_of t)) (drop (length (printed (tree_of t))) text_buffer) (length (printed (tree_of t))) refl)
     (printed-reads-back t u e buffer r))
     (λ d z. absurd (full z))
-    (λ n p d z. absurd (bad (sym e ∙ d)))
+    (λ r d z. absurd (bad (sym e ∙ d)))
   where
     full : ◌≡◌ {A = ℕ} 51 0 → ⊥
     full z = omega arith
 
-    bad : {n p : ℕ} → Good ≡ Refused n p → ⊥
+    bad : {r : Refusal} → ◌≡◌ {A = Verdict} (Ok tt) (Err r) → ⊥
     bad z = let y : ◌≡◌ {A = ℕ} 0 1 = cc in omega arith
 
 -- the bytes that reading a text writes

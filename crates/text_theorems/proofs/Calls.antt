@@ -4,8 +4,8 @@ use native.Mathlib.Omega.{arith}
 use mathlib.Core.Path.{◌≡◌, refl, sym, ap, ◌∙◌}
 use mathlib.Core.List.{List}
 use Rattle.model.specs.declared.CallResult.{CallResult}
-use Rattle.model.specs.declared.Verdict.{Verdict}
-use Rattle.model.specs.declared.Verdict.TheVariants.{Good, Refused}
+use Rattle.std.specs.Prelude.{Ok, Err}
+use Rattle.model.specs.Refusals.{Verdict}
 use Rattle.model.specs.Results.{refusal}
 use Rattle.model.specs.Calls.{verdict_result, check_of}
 use Rattle.text_reader.specs.ReadText.{ReadCall, read_refused, read_text_of}
@@ -42,8 +42,8 @@ module _ (text table : List ℕ) where
 
   check-uncounted : (v : Verdict) → Uncounted (verdict_result v)
   unfolding verdict_result
-  check-uncounted Good = refl
-  check-uncounted (Refused n p) = refl
+  check-uncounted (Ok u) = refl
+  check-uncounted (Err r) = refl
 
   -- The four counts of the result are 0: it is a number and a place.
   pub counts-zero : (read_text_of text table).result ≡ refusal (read_text_of text table).result.number (read_text_of text table).result.place

@@ -1,114 +1,88 @@
--- The text of a symbol, a slot, an expression: each case of the definition, as it is written.
-use Prim.Native.Nat.{ℕ, zero, suc, ◌+◌, ◌-◌, ◌≤◌, ◌<◌}
-use mathlib.Core.Path.{◌≡◌, refl, sym, ap, ◌∙◌}
-use mathlib.Core.Bool.{Bool, true, false, not}
+-- The text of a constant, a slot, an expression: each case of the definition, as it is written.
+use Prim.Native.Nat.{ℕ, zero, suc, ◌≤◌}
+use mathlib.Core.Path.{◌≡◌, refl, sym}
+use mathlib.Core.Logic.{◌⊎◌, inl, inr}
+use mathlib.Core.Bool.{true, false}
 use mathlib.Core.List.{List, [], ◌∷◌, ◌++◌, map}
 use native.Mathlib.Omega.{arith}
-use lib.IntN.{ℤ}
-use mir.Syntax.{w32}
-use mir.Val.{SFits, to_z, of_z}
-use mir.Facts.{to_z-of_z}
-use Rattle.wire.specs.Wire.{signed_of, bits_of}
-use Rattle.wire.proofs.Laws.{signed-low, signed-high, signed-bits, bits-below}
+use lib.IntN.{ℤ, pos, negsuc, nat_abs}
+use lib.ListN.{length}
+use borrow.Author.Tests.{ltb-true}
+use lib.Signed.{lt_z}
 use Rattle.model.specs.declared.Slot.{Slot}
 use Rattle.model.specs.declared.Slot.TheVariants.{Unused, Constant, Variable, Bad}
 use Rattle.model.specs.declared.Expression.{Expression}
-use Rattle.grammar.specs.Tree.{Term, constant, variable}
+use Rattle.model.proofs.Lists.{never}
+use Rattle.grammar.specs.Tree.{Term, constant, Operation, sum, difference, product, quotient, remainder, Comparator, equal, unequal, less}
+use Rattle.grammar.specs.Tree.{at_most, greater, at_least}
 use Rattle.grammar.specs.Layout.{terms_in, operation_of, comparator_of, formulas_by, formulas_in}
-use Rattle.text.specs.Printed.{decimal, term_text, symbol_text, operation_text, comparator_text}
+use Rattle.text.specs.Printed.{decimal, term_text, operation_text, comparator_text}
+use Rattle.text_writing.specs.declared.Page.{Page}
 use Rattle.text_writing.specs.Written.{Put}
 use Rattle.text_writing.specs.Parts.{some, first_text, slot_texts, formula_text, expression_texts}
-use Rattle.model.proofs.Lists.{never}
 use Rattle.text_writing.proofs.Writes.{put-as, put-both, put-none}
 
--- ---- symbols, variables, constants
+-- ---- constants, by their sign
 
-module _ {s : List ℕ} {at : ℕ} {u v : List ℕ} {mid end : ℕ} where
-  pub symbol-put : (k : ℕ) → Put s at (115 ∷ []) 1 u mid → Put u mid (decimal k) 10 v end → Put s at (symbol_text k) 11 v end
-  unfolding symbol_text
-  symbol-put k p q = put-both p q (symbol_text k) 11 refl (omega arith)
-
-  pub variable-put : (k : ℕ) → Put s at (86 ∷ []) 1 u mid → Put u mid (decimal k) 10 v end → Put s at (term_text (variable k)) 11 v end
-  unfolding term_text
-  variable-put k p q = put-both p q (term_text (variable k)) 11 refl (omega arith)
-
-low-text : (n : ℕ) → n < 2147483648 → decimal n ≡ term_text (constant (signed_of n))
+not-negative : (z : ℤ) → lt_z z (pos 0) ≡ false → decimal (nat_abs z) ≡ term_text (constant z)
 unfolding term_text
-low-text n h = rw (signed-low n h)
+not-negative (pos n) h = refl
+not-negative (negsuc n) h = never h
 
-high-text : (n : ℕ) → 2147483648 ≤ n → n < 4294967296 → 45 ∷ decimal (4294967295 - n + 1) ≡ term_text (constant (signed_of n))
+negative : (z : ℤ) → lt_z z (pos 0) ≡ true → 45 ∷ decimal (nat_abs z) ≡ term_text (constant z)
 unfolding term_text
-high-text n h l = let e : 4294967295 - n + 1 ≡ suc (4294967296 - suc n) = omega arith in rw (signed-high n h l, e)
+negative (pos n) h = absurd (omega (arith, ltb-true n 0 h))
+negative (negsuc n) h = refl
 
--- a number that 32 bits hold, by its bits
-module _ (z : ℤ) (f : SFits w32 z) {n : ℕ} (b : n ≡ bits_of (to_z w32 (of_z w32 z))) where
-  back : term_text (constant (signed_of n)) ≡ term_text (constant z)
-  back = ap (λ (x : ℤ). term_text (constant x)) (ap signed_of (b ∙ ap bits_of (to_z-of_z f)) ∙ signed-bits z f)
+module _ {p : Page} (z : ℤ) {n : ℕ} (e : n ≡ nat_abs z) {r : Page} where
+  pub positive-put : lt_z z (pos 0) ≡ false → Put p (decimal n) 10 r → Put p (term_text (constant z)) 11 r
+  positive-put h a = put-as a (rw e (not-negative z h)) (omega arith)
 
-  few : n < 4294967296
-  few = rw (b, to_z-of_z f) (bits-below z f)
-
-  pub positive-put : {s : List ℕ} {at : ℕ} {u : List ℕ} {end : ℕ} → n < 2147483648 → Put s at (decimal n) 10 u end → Put s at (term_text (constant z)) 11 u end
-  positive-put h p = put-as p (low-text n h ∙ back) (omega arith)
-
-  pub negative-put : {s : List ℕ} {at : ℕ} {u v : List ℕ} {mid end : ℕ} → 2147483648 ≤ n → Put s at (45 ∷ []) 1 u mid
-      → Put u mid (decimal (4294967295 - n + 1)) 10 v end → Put s at (term_text (constant z)) 11 v end
-  negative-put h p q = put-both p q (term_text (constant z)) 11 (high-text n h few ∙ back) (omega arith)
+  pub negative-put : {q : Page} → lt_z z (pos 0) ≡ true → Put p (45 ∷ []) 1 q → Put q (decimal n) 10 r → Put p (term_text (constant z)) 11 r
+  negative-put h a b = put-both a b (term_text (constant z)) 11 (rw e (negative z h)) (omega arith)
 
 -- ---- slots
 
-slot-none : (a : Slot) → a ≡ Unused → [] ≡ first_text (slot_texts a)
-unfolding slot_texts terms_in first_text
-slot-none a e = rw e
+abbrev OfTerm : Slot → Type 0
+OfTerm a = ((z : ℤ) × (a ≡ Constant z)) ⊎ ((v : ℕ) × (a ≡ Variable v))
 
-slot-bad : (a : Slot) → a ≡ Bad → [] ≡ first_text (slot_texts a)
-unfolding slot_texts terms_in first_text
-slot-bad a e = rw e
+pub used-some : (a : Slot) → OfTerm a → true ≡ some (slot_texts a)
+unfolding some slot_texts terms_in
+used-some a (inl e) = rw e.1
+used-some a (inr e) = rw e.1
 
-slot-constant : (a : Slot) (z : ℤ) → a ≡ Constant z → term_text (constant z) ≡ first_text (slot_texts a)
-unfolding slot_texts terms_in first_text
-slot-constant a z e = rw e
+module _ (a : Slot) (c : (z : ℤ) → a ≡ Constant z → ⊥) (v : (k : ℕ) → a ≡ Variable k → ⊥) where
+  unused : terms_in a ≡ []
+  unfolding terms_in
+  unused = go a refl
+    where
+      go : (b : Slot) → a ≡ b → terms_in b ≡ []
+      go Unused e = refl
+      go (Constant z) e = absurd (c z e)
+      go (Variable k) e = absurd (v k e)
+      go Bad e = refl
 
-slot-variable : (a : Slot) (v : ℕ) → a ≡ Variable v → term_text (variable v) ≡ first_text (slot_texts a)
-unfolding slot_texts terms_in first_text
-slot-variable a v e = rw e
+  pub unused-none : false ≡ some (slot_texts a)
+  unfolding some slot_texts
+  unused-none = rw unused
 
-module _ {s : List ℕ} {at : ℕ} (a : Slot) where
-  pub unused-put : a ≡ Unused → Put s at (first_text (slot_texts a)) 11 s at
-  unused-put e = put-none s at 11 (slot-none a e)
+module _ {p : Page} (a : Slot) where
+  pub unused-put : (a ≡ Unused) ⊎ (a ≡ Bad) → Put p (first_text (slot_texts a)) 11 p
+  unfolding first_text slot_texts terms_in
+  unused-put (inl e) = rw e (put-none p 11 refl)
+  unused-put (inr e) = rw e (put-none p 11 refl)
 
-  pub bad-put : a ≡ Bad → Put s at (first_text (slot_texts a)) 11 s at
-  bad-put e = put-none s at 11 (slot-bad a e)
+  pub constant-put : {z : ℤ} {q : Page} → a ≡ Constant z → Put p (term_text (constant z)) 11 q → Put p (first_text (slot_texts a)) 11 q
+  unfolding first_text slot_texts terms_in
+  constant-put e b = rw e b
 
-  pub constant-put : {z : ℤ} → a ≡ Constant z → {u : List ℕ} {end : ℕ} → Put s at (term_text (constant z)) 11 u end
-      → Put s at (first_text (slot_texts a)) 11 u end
-  constant-put {z} e p = put-as p (slot-constant a z e) (omega arith)
-
-  pub of-variable : {v : ℕ} → a ≡ Variable v → {u : List ℕ} {end : ℕ} → Put s at (term_text (variable v)) 11 u end
-      → Put s at (first_text (slot_texts a)) 11 u end
-  of-variable {v} e p = put-as p (slot-variable a v e) (omega arith)
-
--- whether one is used
-module _ (a : Slot) where
-  pub unused-none : a ≡ Unused → false ≡ some (slot_texts a)
-  unfolding some slot_texts terms_in
-  unused-none e = rw e
-
-  pub bad-none : a ≡ Bad → false ≡ some (slot_texts a)
-  unfolding some slot_texts terms_in
-  bad-none e = rw e
-
-  pub constant-some : {z : ℤ} → a ≡ Constant z → true ≡ some (slot_texts a)
-  unfolding some slot_texts terms_in
-  constant-some e = rw e
-
-  pub variable-some : {v : ℕ} → a ≡ Variable v → true ≡ some (slot_texts a)
-  unfolding some slot_texts terms_in
-  variable-some e = rw e
+  pub variable-put : {v : ℕ} {q : Page} → a ≡ Variable v → Put p (86 ∷ decimal v) 11 q → Put p (first_text (slot_texts a)) 11 q
+  unfolding first_text slot_texts terms_in term_text
+  variable-put e b = rw e b
 
 -- ---- operations and comparators
 
-pub operation-sum : (n : ℕ) → (n ≡ 2 → ⊥) → (n ≡ 3 → ⊥) → (n ≡ 4 → ⊥) → (n ≡ 5 → ⊥) → operation_text (operation_of n) ≡ 32 ∷ 43 ∷ 32 ∷ []
+pub operation-sum : (n : ℕ) → (n ≡ 2 → ⊥) → (n ≡ 3 → ⊥) → (n ≡ 4 → ⊥) → (n ≡ 5 → ⊥) → 32 ∷ 43 ∷ 32 ∷ [] ≡ operation_text (operation_of n)
 unfolding operation_of operation_text
 operation-sum zero a b c d = refl
 operation-sum (suc zero) a b c d = refl
@@ -118,12 +92,8 @@ operation-sum (suc (suc (suc (suc zero)))) a b c d = absurd (c refl)
 operation-sum (suc (suc (suc (suc (suc zero))))) a b c d = absurd (d refl)
 operation-sum (suc (suc (suc (suc (suc (suc n)))))) a b c d = refl
 
-pub operation-put : {s : List ℕ} {at : ℕ} {u v w : List ℕ} {a b end : ℕ} (n : ℕ) {o : ℕ} → operation_text (operation_of n) ≡ 32 ∷ o ∷ 32 ∷ []
-    → Put s at (32 ∷ []) 1 u a → Put u a (o ∷ []) 1 v b → Put v b (32 ∷ []) 1 w end → Put s at (operation_text (operation_of n)) 3 w end
-operation-put n {o} e p q r = put-both p (put-both q r (o ∷ 32 ∷ []) 2 refl (omega arith)) (operation_text (operation_of n)) 3 (sym e) (omega arith)
-
-pub comparator-equal : (n : ℕ) → (n ≡ 1 → ⊥) → (n ≡ 2 → ⊥) → (n ≡ 3 → ⊥) → (n ≡ 4 → ⊥) → (n ≡ 5 → ⊥) → comparator_of n ≡ comparator_of 0
-unfolding comparator_of
+pub comparator-equal : (n : ℕ) → (n ≡ 1 → ⊥) → (n ≡ 2 → ⊥) → (n ≡ 3 → ⊥) → (n ≡ 4 → ⊥) → (n ≡ 5 → ⊥) → 32 ∷ 61 ∷ 32 ∷ [] ≡ comparator_text (comparator_of n)
+unfolding comparator_of comparator_text
 comparator-equal zero a b c d e = refl
 comparator-equal (suc zero) a b c d e = absurd (a refl)
 comparator-equal (suc (suc zero)) a b c d e = absurd (b refl)
@@ -132,14 +102,22 @@ comparator-equal (suc (suc (suc (suc zero)))) a b c d e = absurd (d refl)
 comparator-equal (suc (suc (suc (suc (suc zero))))) a b c d e = absurd (e refl)
 comparator-equal (suc (suc (suc (suc (suc (suc n)))))) a b c d e = refl
 
--- the comparator that is written is that of the byte
-pub comparator-put : {s : List ℕ} {at : ℕ} {u : List ℕ} {end : ℕ} (n k : ℕ) {m : ℕ} → comparator_of n ≡ comparator_of k
-    → Put s at (comparator_text (comparator_of k)) m u end → m ≤ 4 → Put s at (comparator_text (comparator_of n)) 4 u end
-comparator-put n k e p h = put-as p (ap comparator_text (sym e)) h
+pub operation-few : (o : Operation) → length (operation_text o) ≤ 3
+unfolding operation_text
+operation-few sum = omega arith
+operation-few difference = omega arith
+operation-few product = omega arith
+operation-few quotient = omega arith
+operation-few remainder = omega arith
 
-pub comparator-told : {s : List ℕ} {at : ℕ} {u : List ℕ} {end n k m : ℕ} → n ≡ k
-    → Put s at (comparator_text (comparator_of k)) m u end → m ≤ 4 → Put s at (comparator_text (comparator_of n)) 4 u end
-comparator-told {n = n} {k} e p h = comparator-put n k (ap comparator_of e) p h
+pub comparator-few : (c : Comparator) → length (comparator_text c) ≤ 4
+unfolding comparator_text
+comparator-few equal = omega arith
+comparator-few unequal = omega arith
+comparator-few less = omega arith
+comparator-few at_most = omega arith
+comparator-few greater = omega arith
+comparator-few at_least = omega arith
 
 -- ---- expressions, by their operation and their two sides
 
@@ -176,37 +154,27 @@ applied-text (suc n) [] ys h e = never (sym e)
 applied-text (suc n) (a ∷ xs) [] h e = never (sym e)
 applied-text (suc n) (a ∷ xs) (b ∷ ys) h e = refl
 
-not-true : (b : Bool) {d : Bool} → b ≡ d → not b ≡ true → d ≡ false
-not-true true e h = never (sym h)
-not-true false e h = sym e
-
-not-false : (b : Bool) {d : Bool} → b ≡ d → not b ≡ false → d ≡ true
-not-false true e h = sym e
-not-false false e h = never h
-
 module _ (e : Expression) where
-  pub expression-unused : {r : Bool} → r ≡ some (slot_texts e.left) → not r ≡ true → false ≡ some (expression_texts e)
+  pub expression-unused : some (slot_texts e.left) ≡ false → false ≡ some (expression_texts e)
   unfolding expression_texts formulas_in slot_texts
-  expression-unused {r} q h = by-none e.operation (terms_in e.left) (terms_in e.right) (not-true r q h)
+  expression-unused q = by-none e.operation (terms_in e.left) (terms_in e.right) q
 
-  pub expression-alone : {r : Bool} → r ≡ some (slot_texts e.left) → not r ≡ false → e.operation ≡ 0 → true ≡ some (expression_texts e)
+  pub expression-alone : some (slot_texts e.left) ≡ true → e.operation ≡ 0 → true ≡ some (expression_texts e)
   unfolding expression_texts formulas_in slot_texts
-  expression-alone {r} q h z = rw z (by-alone (terms_in e.left) (terms_in e.right) (not-false r q h))
+  expression-alone q z = rw z (by-alone (terms_in e.left) (terms_in e.right) q)
 
-  pub expression-applied : {r p : Bool} → r ≡ some (slot_texts e.left) → not r ≡ false → (e.operation ≡ 0 → ⊥) → p ≡ some (slot_texts e.right)
-      → p ≡ some (expression_texts e)
+  pub expression-applied : some (slot_texts e.left) ≡ true → (e.operation ≡ 0 → ⊥) → some (slot_texts e.right) ≡ some (expression_texts e)
   unfolding expression_texts formulas_in slot_texts
-  expression-applied {r} q h z d = d ∙ by-applied e.operation (terms_in e.left) (terms_in e.right) z (not-false r q h)
+  expression-applied q z = by-applied e.operation (terms_in e.left) (terms_in e.right) z q
 
-  pub alone-put : {s : List ℕ} {at : ℕ} {u : List ℕ} {end : ℕ} → e.operation ≡ 0 → Put s at (first_text (slot_texts e.left)) 11 u end
-      → Put s at (first_text (expression_texts e)) 25 u end
-  unfolding expression_texts formulas_in slot_texts
-  alone-put z p = put-as p (rw z (alone-text (terms_in e.left) (terms_in e.right))) (omega arith)
+  module _ {p q : Page} (a : Put p (first_text (slot_texts e.left)) 11 q) where
+    pub alone-put : e.operation ≡ 0 → Put p (first_text (expression_texts e)) 25 q
+    unfolding expression_texts formulas_in slot_texts
+    alone-put z = put-as a (rw z (alone-text (terms_in e.left) (terms_in e.right))) (omega arith)
 
-  pub applied-put : {s : List ℕ} {at : ℕ} {u v w : List ℕ} {a b end : ℕ} → (e.operation ≡ 0 → ⊥) → some (expression_texts e) ≡ true
-      → Put s at (first_text (slot_texts e.left)) 11 u a → Put u a (operation_text (operation_of e.operation)) 3 v b
-      → Put v b (first_text (slot_texts e.right)) 11 w end → Put s at (first_text (expression_texts e)) 25 w end
-  unfolding expression_texts formulas_in slot_texts
-  applied-put z used p q r =
-      put-both p (put-both q r _ 14 refl (omega arith)) (first_text (expression_texts e)) 25
-      (applied-text e.operation (terms_in e.left) (terms_in e.right) z used) (omega arith)
+    pub applied-put : (e.operation ≡ 0 → ⊥) → some (expression_texts e) ≡ true → {u v : Page} → Put q (operation_text (operation_of e.operation)) 3 u
+        → Put u (first_text (slot_texts e.right)) 11 v → Put p (first_text (expression_texts e)) 25 v
+    unfolding expression_texts formulas_in slot_texts
+    applied-put z used b c =
+        put-both a (put-both b c _ 14 refl (omega arith)) (first_text (expression_texts e)) 25
+        (applied-text e.operation (terms_in e.left) (terms_in e.right) z used) (omega arith)

@@ -3,7 +3,6 @@ use Rattle.std.specs.Prelude.{ℕ, ◌+◌, ◌*◌, ◌≤◌, ◌≡◌, Bool,
 use Rattle.model.specs.declared.Slot.{Slot}
 use Rattle.model.specs.declared.Expression.{Expression}
 use Rattle.model.specs.declared.RuleShape.{RuleShape}
-use Rattle.model.specs.Slots.{expression_at}
 use Rattle.model.specs.Limits.{most_heads, most_guards, most_items}
 use Rattle.model.specs.Table.{Guard, heads_from, guards_from, items_from, heads_start, guards_start, items_start}
 use Rattle.model.proofs.Every.{every}
@@ -61,15 +60,6 @@ unfoldable pub separator_text : Bool → List ℕ
 separator_text true = 40 ∷ []
 separator_text false = mark_text comma
 
-unfoldable pub argument_text : Bool → List (List ℕ) → List ℕ
-argument_text first [] = []
-argument_text first (x ∷ xs) = separator_text first ++ x
-
--- what stands behind the last one, where there is any
-unfoldable pub closed_text : Bool → List ℕ
-closed_text true = []
-closed_text false = 41 ∷ []
-
 -- ---- expressions
 
 unfoldable pub formula_text : Formula → List ℕ
@@ -82,10 +72,6 @@ slot_texts s = map term_text (terms_in s)
 
 unfoldable pub expression_texts : Expression → List (List ℕ)
 expression_texts e = map formula_text (formulas_in e)
-
--- the arguments of the body fact at p
-abbrev pub arguments_at : List ℕ → ℕ → List Expression
-arguments_at t p = expression_at t (p + 2) ∷ expression_at t (p + 13) ∷ expression_at t (p + 24) ∷ expression_at t (p + 35) ∷ []
 
 -- both sides of a comparison are used
 pub record BothUsed (g : Guard) : Type 0 where

@@ -3,13 +3,15 @@
 use Rattle.std.specs.Prelude.{ℕ, ◌+◌, ◌≤◌, ◌≡◌, List, length}
 use Rattle.std.proofs.lemmas.List.Edits.{sets}
 pub use Rattle.text.specs.Token.{longest_text}
+use Rattle.text_writing.specs.declared.Page.{Page}
 
 -- s with the bytes from `at` on, as far as it goes
 unfoldable pub written : ℕ → List ℕ → List ℕ → List ℕ
 written at bytes s = sets s at bytes
 
--- the bytes, of which there are at most `most`, were written to s from `at` on, which made it s'; `end` is the place behind them
-pub record Put (s : List ℕ) (at : ℕ) (bytes : List ℕ) (most : ℕ) (s' : List ℕ) (end : ℕ) : Type 0 where
-  pub place : end ≡ at + length bytes
-  pub same : s' ≡ written at bytes s
+-- the bytes, of which there are at most `most`, were written to the page p from its place on, which made it q, of the same buffer
+pub record Put (p : Page) (bytes : List ℕ) (most : ℕ) (q : Page) : Type 0 where
+  pub place : q.at ≡ p.at + length bytes
+  pub same : q.text.now ≡ written p.at bytes p.text.now
   pub few : length bytes ≤ most
+  pub buffer : q.text.ghost_name ≡ p.text.ghost_name

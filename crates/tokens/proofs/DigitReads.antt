@@ -1,235 +1,218 @@
--- The loop over digits, and what the digits say: the invariant is that the number said so far and the digits left are those of the whole.
-use Prim.Native.Nat.{ℕ, zero, suc, ◌+◌, ◌-◌, ◌*◌, ◌≤◌, ◌<◌, min}
-use native.Mathlib.Numerals.{add-one}
-use native.Mathlib.Omega.{arith}
-use mathlib.Core.Path.{◌≡◌, refl, sym, ap, ◌∙◌}
-use mathlib.Core.Bool.{Bool, true, false, cond, not, ◌&&◌}
+-- Digits read one by one: what they say so far, and what is left.
+use Prim.Native.Nat.{ℕ, zero, suc, ◌+◌, ◌-◌, ◌*◌, ◌≤◌, ◌<◌}
+use native.Mathlib.Omega.{arith, not-le}
+use mathlib.Core.Path.{◌≡◌, refl, sym, ◌∙◌}
+use mathlib.Core.Bool.{Bool, true, false, cond, ◌&&◌}
 use mathlib.Core.List.{List, [], ◌∷◌}
-use lib.Dec.{leb}
-use lib.IntN.{ℤ, pos, negsuc, ◌-ℤ◌}
+use lib.Dec.{leb, ltb}
 use lib.ListN.{length, get_or, drop, drop_of_length-le}
-use lib.Seq.{drop-cons, get_or-drop}
-use borrow.Author.Tests.{le-leb, lt-leb, not-true, not-false}
-use mir.Facts.{to_z_pos}
+use lib.Seq.{drop-cons}
+use native.Mathlib.Numerals.{add-one}
+use borrow.Author.Tests.{le-leb, lt-leb, leb-true, leb-false, lt-ltb}
+use Rattle.std.specs.Prelude.{Option, Some, None}
+use Rattle.std.specs.Char.{is_ascii_digit}
+use lib.IntN.{ℤ, pos}
 use mir.Syntax.{w32}
-use mir.Val.{to_z}
-use Rattle.wire.proofs.Machine.{down}
-use Rattle.numbers.proofs.Laws.{pos-ranged}
-use Rattle.text.specs.Spelling.{is_digit, is_word_byte, run, digits, value_from, value, negative, Found, nothing, constant_of, negated}
-use Rattle.text.proofs.Bytes.{no-test, digit-word}
-use Rattle.text.proofs.Lexing.{run-some, negative-ranged}
-use Rattle.wire.specs.Wire.{byte_at}
-use Rattle.tokens.specs.declared.numerals.Digits.{Digits}
-use Rattle.tokens.specs.declared.Token.TheVariants.{Constant}
-use Rattle.tokens.specs.declared.Found.TheVariants.{Token as Here, Nothing}
-use Rattle.tokens.specs.Views.{Reads}
-use Rattle.tokens.specs.Numerals.{digit_run, too_much, Grown, DigitsAt}
+use mir.Val.{SFits}
+use Rattle.std.specs.Prelude.{Result, Ok, Err}
+use Rattle.std.specs.Result.{OkIff, result_ok}
+use Rattle.text.proofs.Bytes.{digit-word}
+use Rattle.text.specs.Spelling.{is_digit, is_word_byte, digits, value_from, value, constant_of, negated}
+use Rattle.std.specs.Option.{SomeIff}
+use lib.IntN.{◌-ℤ◌}
+use Rattle.grammar.specs.Tree.{constant}
+use Rattle.text.specs.Token.{slot}
+use Rattle.text.specs.Spelling.{run, negative, found, nothing}
+use Rattle.tokens.specs.declared.Spelled.{Spelled}
+use Rattle.tokens.specs.Views.{found_of}
+use Rattle.tokens.proofs.SignReads.{and-false}
+use Rattle.tokens.proofs.WordReads.{run-end, run-skips, run-stops}
+use Rattle.tokens.specs.Numerals.{magnitude_of}
 
--- ---- the loop
+abbrev pub most : ℕ
+most = 4294967295
 
-pub digit-told : {q : Bool} (b : ℕ) → q ≡ is_digit b → not q ≡ false → is_digit b ≡ true
-digit-told b e d = sym e ∙ not-false _ d
+-- what the bytes say behind v, which the i bytes before them say
+unfoldable pub magnitude_from : ℕ → ℕ → List ℕ → Option (ℕ × ℕ)
+magnitude_from v i [] = Some (v, i)
+magnitude_from v i (b ∷ bs) =
+    cond (is_digit b) (cond (leb (10 * v + (b - 48)) most) (magnitude_from (10 * v + (b - 48)) (i + 1) bs) None) (cond (is_word_byte b) None (Some (v, i)))
 
--- `end` and `value` of the loop; `exact` is what the digits passed say
-pub record Turn (text : List ℕ) (from end value : ℕ) : Type 0 where
-  pub exact : ℕ
-  pub same : value_from exact (digit_run (drop end text)) (drop end text) ≡ Rattle.text.specs.Spelling.value (digit_run (drop from text)) (drop from text)
-  pub near : min too_much value ≡ min too_much exact
-  pub ends : from + digit_run (drop from text) ≡ end + digit_run (drop end text)
-  pub within : end ≤ length text
-  pub small : value < 21474836490
-
-pub first-turn : (text : List ℕ) (from : ℕ) → from ≤ length text → Turn text from from 0
-unfolding Rattle.text.specs.Spelling.value
-first-turn text from h = record { exact = 0; same = refl; near = refl; ends = refl; within = h; small = omega arith }
-
-run-on : (text : List ℕ) (i : ℕ) → i < length text → is_digit (get_or text i 0) ≡ true → digit_run (drop i text) ≡ suc (digit_run (drop (i + 1) text))
-unfolding digit_run
-run-on text i h e = rw (drop-cons text i 0 h, e, add-one i)
-
-run-stops : (text : List ℕ) (i : ℕ) → i < length text → is_digit (get_or text i 0) ≡ false → digit_run (drop i text) ≡ 0
-unfolding digit_run
-run-stops text i h e = rw (drop-cons text i 0 h, e)
-
-run-out : (text : List ℕ) (i : ℕ) → length text ≤ i → digit_run (drop i text) ≡ 0
-unfolding digit_run
-run-out text i h = rw (drop_of_length-le text h)
-
-value-on : (text : List ℕ) (i v n : ℕ) → i < length text
-    → value_from v (suc n) (drop i text) ≡ value_from (10 * v + (get_or text i 0 - 48)) n (drop (i + 1) text)
+grows : (v n : ℕ) (bs : List ℕ) → v ≤ value_from v n bs
 unfolding value_from
-value-on text i v n h = rw (drop-cons text i 0 h, add-one i)
+grows v zero bs = omega arith
+grows v (suc n) [] = omega arith
+grows v (suc n) (b ∷ bs) = omega (arith, grows (10 * v + (b - 48)) n bs)
 
-module _ {text : List ℕ} {from end value : ℕ} (t : Turn text from end value) where
-  pub next-turn : {q : Bool} {r : ℕ} → end < length text → q ≡ is_digit (get_or text end 0) → not q ≡ false → Grown value (get_or text end 0) r
-      → Turn text from (end + 1) r
-  next-turn h e d g =
-      let on = run-on text end h (sym e ∙ not-false _ d) in
-      record {
-        exact = 10 * t.exact + (get_or text end 0 - 48);
-        same = sym (rw on (value-on text end t.exact (digit_run (drop (end + 1) text)) h)) ∙ t.same;
-        near = omega (arith, g.near, t.near);
-        ends = omega arith;
-        within = omega arith;
-        small = g.small;
-      }
+-- the same, of n bytes
+abbrev said_by : ℕ → ℕ → ℕ → List ℕ → Option (ℕ × ℕ)
+said_by v i n bs = cond (digits n bs && leb (value_from v n bs) most) (Some (value_from v n bs, i + n)) None
 
-  stopped : digit_run (drop end text) ≡ 0 → DigitsAt text from (record { end = end; value = value })
-  unfolding value_from
-  stopped z = record { ends = omega arith; near = t.near ∙ ap (min too_much) (sym (rw z) ∙ t.same); within = t.within; small = t.small }
-
-  pub no-digit : {q : Bool} → end < length text → q ≡ is_digit (get_or text end 0) → not q ≡ true → DigitsAt text from (record { end = end; value = value })
-  no-digit h e d = stopped (run-stops text end h (sym e ∙ not-true _ d))
-
-  pub no-byte : length text ≤ end → DigitsAt text from (record { end = end; value = value })
-  no-byte h = stopped (run-out text end h)
-
--- ---- digits and the run of letters and digits
-
-digits-more : (b : ℕ) (bs : List ℕ) → is_digit b ≡ true → digit_run (b ∷ bs) ≡ suc (digit_run bs)
-unfolding digit_run
-digits-more b bs e = rw e
-
-digits-none : (b : ℕ) (bs : List ℕ) → is_digit b ≡ false → digit_run (b ∷ bs) ≡ 0
-unfolding digit_run
-digits-none b bs e = rw e
-
--- the byte behind the digits
-abbrev behind : List ℕ → ℕ
-behind bs = get_or bs (digit_run bs) 0
-
-run-of-digits : (bs : List ℕ) → is_word_byte (behind bs) ≡ false → run bs ≡ digit_run bs
-unfolding run digit_run
-run-of-digits [] e = refl
-run-of-digits (b ∷ bs) e = go (is_digit b) refl (run-of-digits bs)
+from-is : (v i : ℕ) (bs : List ℕ) → v ≤ most → magnitude_from v i bs ≡ said_by v i (run bs) bs
+unfolding magnitude_from digits value_from
+from-is v i [] h = let same : i + 0 ≡ i = omega arith in rw (run-end, le-leb v most h, same)
+from-is v i (b ∷ bs) h = go (is_digit b) (is_word_byte b) (leb (10 * v + (b - 48)) most) refl refl refl (from-is (10 * v + (b - 48)) (i + 1) bs)
   where
-    go : (t : Bool) → is_digit b ≡ t → (is_word_byte (behind bs) ≡ false → run bs ≡ digit_run bs) → run (b ∷ bs) ≡ digit_run (b ∷ bs)
-    go true d ih = let m = digits-more b bs d in rw (m, run-some b bs (digit-word b d)) (ap suc (ih (rw m at e)))
-    go false d ih = let m = digits-none b bs d in let w : is_word_byte b ≡ false = rw m at e in rw (m, w)
+    go : (d w l : Bool) → is_digit b ≡ d → is_word_byte b ≡ w → leb (10 * v + (b - 48)) most ≡ l
+        → (10 * v + (b - 48) ≤ most → magnitude_from (10 * v + (b - 48)) (i + 1) bs ≡ said_by (10 * v + (b - 48)) (i + 1) (run bs) bs)
+        → magnitude_from v i (b ∷ bs) ≡ said_by v i (run (b ∷ bs)) (b ∷ bs)
+    go false true l e f g ih = rw (run-skips b bs f, e, f)
+    go false false l e f g ih = let same : i + 0 ≡ i = omega arith in rw (run-stops b bs f, e, f, le-leb v most h, same)
+    go true w true e f g ih =
+        let step : i + suc (run bs) ≡ i + 1 + run bs = omega arith in
+        rw (run-skips b bs (digit-word b e), e, g, step) (ih (leb-true (10 * v + (b - 48)) most g))
+    go true w false e f g ih =
+        let large : most < value_from (10 * v + (b - 48)) (run bs) bs =
+        omega (arith, grows (10 * v + (b - 48)) (run bs) bs, leb-false (10 * v + (b - 48)) most g) in
+        rw (run-skips b bs (digit-word b e), e, g, lt-leb (value_from (10 * v + (b - 48)) (run bs) bs) most large, and-false)
 
-digits-all : (bs : List ℕ) → digits (digit_run bs) bs ≡ true
-unfolding digits digit_run
-digits-all [] = refl
-digits-all (b ∷ bs) = go (is_digit b) refl (digits-all bs)
-  where
-    go : (t : Bool) → is_digit b ≡ t → digits (digit_run bs) bs ≡ true → digits (digit_run (b ∷ bs)) (b ∷ bs) ≡ true
-    go true d ih = rw (digits-more b bs d, d) ih
-    go false d ih = rw (digits-none b bs d)
+pub magnitude_begins : (bs : List ℕ) → magnitude_from 0 0 bs ≡ magnitude_of (run bs) bs
+unfolding magnitude_of value
+magnitude_begins bs = let same : 0 + run bs ≡ run bs = omega arith in from-is 0 0 bs (omega arith) ∙ rw same
 
-digits-not : (bs : List ℕ) → is_word_byte (behind bs) ≡ true → digits (run bs) bs ≡ false
-unfolding digits digit_run is_word_byte
-digits-not [] e = no-test (sym e)
-digits-not (b ∷ bs) e = go (is_digit b) refl (digits-not bs)
-  where
-    go : (t : Bool) → is_digit b ≡ t → (is_word_byte (behind bs) ≡ true → digits (run bs) bs ≡ false) → digits (run (b ∷ bs)) (b ∷ bs) ≡ false
-    go true d ih = rw (run-some b bs (digit-word b d), d) (ih (rw (digits-more b bs d) at e))
-    go false d ih = let w : is_word_byte b ≡ true = rw (digits-none b bs d) at e in rw (run-some b bs w, d)
+module _ (bs : List ℕ) (i v : ℕ) (inside : i < length bs) (so_far : magnitude_from v i (drop i bs) ≡ magnitude_of (run bs) bs) where
+  next : magnitude_of (run bs) bs
+      ≡ cond (is_digit (get_or bs i 0))
+      (cond (leb (10 * v + (get_or bs i 0 - 48)) most) (magnitude_from (10 * v + (get_or bs i 0 - 48)) (i + 1) (drop (i + 1) bs)) None)
+      (cond (is_word_byte (get_or bs i 0)) None (Some (v, i)))
+  unfolding magnitude_from
+  next = sym so_far ∙ rw (drop-cons bs i 0 inside, add-one i)
 
--- ---- what the code returns
+  module _ (other : false ≡ is_ascii_digit (get_or bs i 0)) where
+    pub letter : true ≡ is_word_byte (get_or bs i 0) → None ≡ magnitude_of (run bs) bs
+    unfolding is_digit
+    letter e = sym (next ∙ rw (← other, ← e))
 
-pub nothing-below : (n : ℕ) → n ≡ 0 → pos 0 ≡ negative n
+    pub ended : false ≡ is_word_byte (get_or bs i 0) → Some (v, i) ≡ magnitude_of (run bs) bs
+    unfolding is_digit
+    ended e = sym (next ∙ rw (← other, ← e))
+
+  module _ (digit : true ≡ is_ascii_digit (get_or bs i 0)) where
+    pub too_large : most < 10 * v + (get_or bs i 0 - 48) → None ≡ magnitude_of (run bs) bs
+    unfolding is_digit
+    too_large l = sym (next ∙ rw (← digit, lt-leb (10 * v + (get_or bs i 0 - 48)) most l))
+
+    pub one_more : {n : ℕ} → n ≡ 10 * v + (get_or bs i 0 - 48) → n ≤ most → magnitude_from n (i + 1) (drop (i + 1) bs) ≡ magnitude_of (run bs) bs
+    unfolding is_digit
+    one_more {n} same l = sym (next ∙ rw (← same, ← digit, le-leb n most l))
+
+pub all_read : (bs : List ℕ) (i v : ℕ) → i ≡ length bs → magnitude_from v i (drop i bs) ≡ magnitude_of (run bs) bs
+    → Some (v, length bs) ≡ magnitude_of (run bs) bs
+unfolding magnitude_from
+all_read bs i v is e = let h : length bs ≤ i = omega (arith, is) in rw (drop_of_length-le bs h, is) at e
+
+-- ---- constants
+
+-- no number up to `limit` is said, where none up to `most` is
+module _ (n : ℕ) (ds : List ℕ) (limit : ℕ) (h : limit ≤ most) where
+  said-none : None ≡ magnitude_of n ds → (digits n ds && leb (value n ds) limit) ≡ false
+  unfolding magnitude_of
+  said-none e = go (digits n ds) (leb (value n ds) most) refl refl
+    where
+      go : (d l : Bool) → digits n ds ≡ d → leb (value n ds) most ≡ l → (digits n ds && leb (value n ds) limit) ≡ false
+      go false l p q = rw p
+      go true false p q = rw (p, lt-leb (value n ds) limit (omega (arith, leb-false (value n ds) most q)))
+      go true true p q = absurd (let z : ◌≡◌ {A = Option (ℕ × ℕ)} None (Some (value n ds, n)) = rw (p, q) at e in cc)
+
+  module _ {p : ℕ × ℕ} (e : Some p ≡ magnitude_of n ds) where
+    said : (digits n ds && leb (value n ds) limit) ≡ leb p.0 limit
+    unfolding magnitude_of
+    said = go (digits n ds) (leb (value n ds) most) refl refl
+      where
+        go : (d l : Bool) → digits n ds ≡ d → leb (value n ds) most ≡ l → (digits n ds && leb (value n ds) limit) ≡ leb p.0 limit
+        go false l f g = absurd (let z : ◌≡◌ {A = Option (ℕ × ℕ)} (Some p) None = rw f at e in cc)
+        go true false f g = absurd (let z : ◌≡◌ {A = Option (ℕ × ℕ)} (Some p) None = rw (f, g) at e in cc)
+        go true true f g =
+            let v : p ≡ (value n ds, n) = (let z : ◌≡◌ {A = Option (ℕ × ℕ)} (Some p) (Some (value n ds, n)) = rw (f, g) at e in cc) in rw (f, v)
+
+    said-is : (p.0 ≡ value n ds) × (p.1 ≡ n)
+    unfolding magnitude_of
+    said-is = go (digits n ds && leb (value n ds) most) refl
+      where
+        go : (t : Bool) → (digits n ds && leb (value n ds) most) ≡ t → (p.0 ≡ value n ds) × (p.1 ≡ n)
+        go true f =
+            let v : p ≡ (value n ds, n) = (let z : ◌≡◌ {A = Option (ℕ × ℕ)} (Some p) (Some (value n ds, n)) = rw f at e in cc) in (rw v, rw v)
+        go false f = absurd (let z : ◌≡◌ {A = Option (ℕ × ℕ)} (Some p) None = rw f at e in cc)
+
+module _ (bs : List ℕ) where
+  pub no_constant : {r : Option Spelled} → r ≡ None → None ≡ magnitude_of (run bs) bs → found_of r ≡ constant_of (run bs) bs
+  unfolding constant_of
+  no_constant gone e = rw (gone, said-none (run bs) bs 2147483647 (omega arith) e)
+
+  module _ {m k : ℕ} (e : Some (m, k) ≡ magnitude_of (run bs) bs) {E : Type 0} where
+    pub too_high : {r : Option Spelled} (x : Result ℤ E) → r ≡ None → None ≡ result_ok x → OkIff x (SFits w32 (pos m)) (pos m)
+        → found_of r ≡ constant_of (run bs) bs
+    unfolding constant_of
+    too_high (Ok z) gone n f = absurd (let z' : ◌≡◌ {A = Option ℤ} None (Some z) = n in cc)
+    too_high (Err d) gone n none =
+        rw (
+          gone,
+          said (run bs) bs 2147483647 (omega arith) e,
+          lt-leb m 2147483647 (not-le m 2147483647 (λ (l : m ≤ 2147483647). none (record { sfits = omega arith }))),
+        )
+
+    pub a_constant : {z : ℤ} (x : Result ℤ E) → Some z ≡ result_ok x → OkIff x (SFits w32 (pos m)) (pos m)
+        → found (slot (constant z)) k ≡ constant_of (run bs) bs
+    unfolding constant_of
+    a_constant {z} (Ok y) same (fits, is) =
+        let v = said-is (run bs) bs 0 (omega arith) e in
+        let t : z ≡ y = (let s : ◌≡◌ {A = Option ℤ} (Some z) (Some y) = same in cc) in
+        rw (said (run bs) bs 2147483647 (omega arith) e, le-leb m 2147483647 (omega (arith, fits)), t, is, v.0, v.1)
+    a_constant {z} (Err d) same f = absurd (let s : ◌≡◌ {A = Option ℤ} (Some z) None = same in cc)
+
+-- ---- behind a minus
+
+zero-less : (n : ℕ) → pos 0 -ℤ pos n ≡ negative n
 unfolding negative
-nothing-below n e = rw e
+zero-less zero = refl
+zero-less (suc n) =
+    let under : ltb 0 (suc n) ≡ true = lt-ltb 0 (suc n) (omega arith) in
+    let less : suc n - 1 ≡ n = omega arith in
+    rw (under, less)
 
-negative-suc : (n : ℕ) → 0 < n → negative n ≡ negsuc (n - 1)
+negative-fits : (n : ℕ) → n ≤ 2147483648 → SFits w32 (negative n)
 unfolding negative
-negative-suc zero h = absurd (omega arith)
-negative-suc (suc n) h = ap negsuc (omega arith)
+negative-fits zero h = record { sfits = omega arith }
+negative-fits (suc n) h = record { sfits = omega arith }
 
--- counted down from -1
-pub down-is : (n : ℕ) → 0 < n → n ≤ 2147483648 → negsuc 0 -ℤ to_z w32 (n - 1) ≡ negsuc (n - 1)
-down-is n h l = ap (λ (z : ℤ). negsuc 0 -ℤ z) (to_z_pos w32 {n = n - 1} (omega arith)) ∙ down (n - 1)
+fits-negative : (n : ℕ) → SFits w32 (negative n) → n ≤ 2147483648
+unfolding negative
+fits-negative zero f = omega arith
+fits-negative (suc n) f = omega (arith, f)
 
-pub some-below : (n : ℕ) → 0 < n → n ≤ 2147483648 → negsuc 0 -ℤ to_z w32 (n - 1) ≡ negative n
-some-below n h l = down-is n h l ∙ sym (negative-suc n h)
+module _ (bs : List ℕ) where
+  pub no_negative : {r : Option Spelled} → r ≡ None → None ≡ magnitude_of (run bs) bs → found_of r ≡ negated (run bs) bs
+  unfolding negated
+  no_negative gone e = rw (gone, said-none (run bs) bs 2147483648 (omega arith) e, and-false)
 
-not-both : (t : Bool) (x : Found) → cond (t && false) x nothing ≡ nothing
-not-both true x = refl
-not-both false x = refl
+  module _ {m k : ℕ} (e : Some (m, k) ≡ magnitude_of (run bs) bs) where
+    long : k ≡ run bs
+    long = let v = said-is (run bs) bs 0 (omega arith) e in v.1
 
--- digits from a place on, and the byte x behind them
-module _ (text : List ℕ) (from : ℕ) {d : Digits} (is : DigitsAt text from d)
-    {x : ℕ} {q : Bool} (byte : x ≡ byte_at text d.end) (test : q ≡ is_word_byte x) where
-  next-byte : is_word_byte (behind (drop from text)) ≡ q
-  next-byte = rw (get_or-drop from text (digit_run (drop from text)) 0, ← is.ends, ← byte) (sym test)
-
-  -- a letter behind them: the run is no numeral
-  module _ (word : q ≡ true) where
-    split : digits (run (drop from text)) (drop from text) ≡ false
-    split = digits-not (drop from text) (next-byte ∙ word)
-
-    pub constant-split : Reads (constant_of (run (drop from text)) (drop from text)) Nothing
-    unfolding constant_of
-    constant-split = record { same = sym (rw split); sane = tt }
-
-    negated-split : Reads (negated (run (drop from text)) (drop from text)) Nothing
+    pub no_run : k ≡ 0 → nothing ≡ negated (run bs) bs
     unfolding negated
-    negated-split = record { same = sym (rw split (not-both (leb 1 (run (drop from text))) _)); sane = tt }
+    no_run z = let none : run bs ≡ 0 = sym long ∙ z in rw none
 
-  -- the run is a numeral
-  module _ (whole : q ≡ false) where
-    whole-run : run (drop from text) ≡ digit_run (drop from text)
-    whole-run = run-of-digits (drop from text) (next-byte ∙ whole)
+    module _ (some : k ≡ 0 → ⊥) where
+      begun : leb 1 (run bs) ≡ true
+      begun = le-leb 1 (run bs) (omega (arith, some, long))
 
-    exact : {most : ℕ} → most ≤ 2147483648 → d.value ≤ most → d.value ≡ value (digit_run (drop from text)) (drop from text)
-    exact l h = omega (arith, is.near)
+      pub too_low : {r : Option Spelled} {x : Option ℤ} → r ≡ None → None ≡ x → SomeIff x (SFits w32 (pos 0 -ℤ pos m)) (pos 0 -ℤ pos m)
+          → found_of r ≡ negated (run bs) bs
+      unfolding negated
+      too_low gone e' f =
+          let none : SFits w32 (negative m) → ⊥ = rw (← e', zero-less m) at f in
+          let low = not-le m 2147483648 (λ (l : m ≤ 2147483648). none (negative-fits m l)) in
+          rw (gone, begun, said (run bs) bs 2147483648 (omega arith) e, lt-leb m 2147483648 low)
 
-    large : (most : ℕ) → most ≤ 2147483648 → most < d.value → leb (value (digit_run (drop from text)) (drop from text)) most ≡ false
-    large most l h = lt-leb _ most (omega (arith, is.near))
+      pub a_negative : {z : ℤ} {x : Option ℤ} → Some z ≡ x → SomeIff x (SFits w32 (pos 0 -ℤ pos m)) (pos 0 -ℤ pos m)
+          → found (slot (constant z)) (k + 1) ≡ negated (run bs) bs
+      unfolding negated
+      a_negative {z} e' f =
+          let fits : SFits w32 (negative m) × (z ≡ negative m) = rw (← e', zero-less m) at f in
+          let v = said-is (run bs) bs 0 (omega arith) e in
+          rw (begun, said (run bs) bs 2147483648 (omega arith) e, le-leb m 2147483648 (fits-negative m fits.0), fits.1, v.0, v.1, add-one (run bs))
 
-    pub constant-large : 2147483648 ≤ d.value → Reads (constant_of (run (drop from text)) (drop from text)) Nothing
-    unfolding constant_of
-    constant-large h = record { same = sym (rw (whole-run, digits-all, large 2147483647 (omega arith) (omega arith))); sane = tt }
+pub ruleset constant_rules = (no_constant, too_high, a_constant)
 
-    pub constant-found : d.value < 2147483648
-        → Reads (constant_of (run (drop from text)) (drop from text)) (Here (Constant (to_z w32 d.value)) (d.end - from))
-    unfolding constant_of
-    constant-found h =
-        let v = exact {most = 2147483647} (omega arith) (omega arith) in
-        let n : d.end - from ≡ digit_run (drop from text) = omega (arith, is.ends) in
-        let z : to_z w32 d.value ≡ pos d.value = to_z_pos w32 h in
-        record {
-          same = rw (whole-run, digits-all, ← v, le-leb d.value 2147483647 (omega arith), z, n);
-          sane = rw z (pos-ranged d.value (omega arith));
-        }
-
-    negated-none : d.end ≡ from → Reads (negated (run (drop from text)) (drop from text)) Nothing
-    unfolding negated
-    negated-none e = let z : digit_run (drop from text) ≡ 0 = omega (arith, is.ends) in record { same = sym (rw (whole-run, z)); sane = tt }
-
-    negated-large : 2147483648 < d.value → Reads (negated (run (drop from text)) (drop from text)) Nothing
-    unfolding negated
-    negated-large h =
-        record {
-          same = sym (rw (whole-run, digits-all, large 2147483648 (omega arith) h) (not-both (leb 1 (digit_run (drop from text))) _));
-          sane = tt;
-        }
-
-    negated-found : {z : ℤ} {n : ℕ} → z ≡ negative d.value → d.value ≤ 2147483648 → (d.end ≡ from → ⊥) → n + from ≡ suc d.end
-        → Reads (negated (run (drop from text)) (drop from text)) (Here (Constant z) n)
-    unfolding negated
-    negated-found {z} {n} e h more l =
-        let v = exact {most = 2147483648} (omega arith) h in
-        let k : n ≡ suc (digit_run (drop from text)) = omega (arith, is.ends) in
-        let some : 1 ≤ digit_run (drop from text) = omega (arith, is.ends) in
-        record {
-          same = rw (whole-run, digits-all, ← v, le-leb 1 (digit_run (drop from text)) some, le-leb d.value 2147483648 h, e, k);
-          sane = rw e (negative-ranged d.value h);
-        }
-
--- the same behind a minus
-module _ (text : List ℕ) (at : ℕ) {d : Digits} (is : DigitsAt text (at + 1) d)
-    {x : ℕ} {q : Bool} (byte : x ≡ byte_at text d.end) (test : q ≡ is_word_byte x) where
-  pub negative-split : q ≡ true → Reads (negated (run (drop (at + 1) text)) (drop (at + 1) text)) Nothing
-  negative-split w = negated-split text (at + 1) is byte test w
-
-  module _ (whole : q ≡ false) where
-    pub negative-none : d.end ≡ at + 1 → Reads (negated (run (drop (at + 1) text)) (drop (at + 1) text)) Nothing
-    negative-none e = negated-none text (at + 1) is byte test whole e
-
-    pub negative-large : 2147483648 < d.value → Reads (negated (run (drop (at + 1) text)) (drop (at + 1) text)) Nothing
-    negative-large h = negated-large text (at + 1) is byte test whole h
-
-    pub negative-found : {z : ℤ} → z ≡ negative d.value → d.value ≤ 2147483648 → (d.end ≡ at + 1 → ⊥)
-        → Reads (negated (run (drop (at + 1) text)) (drop (at + 1) text)) (Here (Constant z) (d.end - at))
-    negative-found e h more = negated-found text (at + 1) is byte test whole e h more (omega (arith, is.ends))
+pub ruleset negated_rules = (no_run, no_negative, too_low, a_negative)

@@ -1,331 +1,374 @@
--- Words as the code reads them, byte by byte: the index behind `s` or `V` is one digit or two and the run ends there; `true` and `fail` likewise.
--- By the cases of the first bytes.
+-- Words: where their run ends, and the index behind `s` or `V`.
 use Prim.Native.Nat.{ℕ, zero, suc, ◌+◌, ◌-◌, ◌*◌, ◌≤◌, ◌<◌}
 use native.Mathlib.Omega.{arith}
-use mathlib.Core.Path.{◌≡◌, refl, sym, ap, ◌∙◌}
+use mathlib.Core.Path.{◌≡◌, refl, sym, ◌∙◌}
 use mathlib.Core.Bool.{Bool, true, false, cond, not, ◌&&◌}
-use mathlib.Core.Option.{none}
 use mathlib.Core.List.{List, [], ◌∷◌}
-use lib.Dec.{eqb, eqb-suc-suc}
-use lib.ListN.{length, get_or, drop}
-use lib.Seq.{get_or-drop, drop-drop}
-use borrow.Author.Tests.{le-leb, lt-leb, lt-ltb, le-ltb, eq-eqb, ne_eqb, not-true, not-false}
-use mir.Syntax.{w8}
-use mir.Val.{Fits}
-use Rattle.text.specs.Token.{mark, true_word, fail_word}
-use Rattle.text.specs.Spelling.{is_digit, is_word_byte, run, digits, value, value_from, index_of, found, nothing, begins, indexed, keyword, word, constant_of}
-use Rattle.text.proofs.Bytes.{no-test, digit-word, digit-low, digit-high, word-some}
-use Rattle.text.proofs.Lexing.{run-some}
-use Rattle.wire.specs.Wire.{byte_at}
-use Rattle.tokens.specs.declared.Token.TheVariants.{Symbol, Variable, Mark as CodeMark}
-use Rattle.tokens.specs.declared.Found.{Found as CodeFound}
-use Rattle.tokens.specs.declared.Found.TheVariants.{Token as Here, Nothing}
-use Rattle.tokens.specs.Views.{mark_of, Reads}
-use Rattle.tokens.specs.Names.{letter_by, up_to, named_by, name_by}
-use Rattle.tokens.proofs.SignReads.{begins-at, and-true, reads-same, front}
+use lib.Dec.{leb, ltb, eqb}
+use lib.ListN.{length, get_or, take, drop}
+use borrow.Author.Tests.{le-leb, lt-leb, lt-ltb, le-ltb, ltb-false, leb-true, leb-false, eqb-true, ne_eqb}
+use Rattle.std.specs.Prelude.{position, Option, Some, None}
+use Rattle.std.specs.List.{position_or_len}
+use Rattle.std.specs.Option.{unwrap_or}
+use Rattle.std.proofs.Math.Option as definition
+use Rattle.std.proofs.Math.Option.{none}
+use lib.Seq.{length-take-le, take-length}
+use lib.IntN.{ℤ}
+use Rattle.std.proofs.lemmas.Slice.Eq.{text_from_reads}
+use Rattle.grammar.specs.Tree.{constant, variable}
+use Rattle.text.specs.Token.{Token, symbol, slot, mark, true_word, fail_word}
+use Rattle.text.specs.Spelling.{is_digit, is_word_byte, run, digits, value, value_from, index_of, constant_of, begins, indexed, keyword, word, found, nothing}
+use Rattle.tokens.specs.declared.Spelled.{Spelled}
+use Rattle.tokens.specs.Views.{found_of, index_found}
+use Rattle.tokens.proofs.SignReads.{and-true, and-false}
+use Rattle.text.proofs.Bytes.{digit-is, digit-low, digit-high, digit-word, and-left, and-right}
 
--- the bytes behind a place
-abbrev behind : List ℕ → ℕ → List ℕ
-behind text at = drop (at + 1) text
+-- ---- the run
 
--- ---- an index and its letter
+abbrev pub ends_run : ℕ → Bool
+ends_run b = not (is_word_byte b)
 
-module _ (letter n i : ℕ) where
-  module _ (e : letter ≡ 115) where
-    pub symbol-named : i ≤ 31 → Reads (named_by letter n i) (Here (Symbol i) n)
-    unfolding named_by letter_by up_to indexed
-    symbol-named h = record { same = sym (rw (eq-eqb letter 115 e, le-leb i 31 h)); sane = h }
-
-    pub symbol-unnamed : 31 < i → Reads (named_by letter n i) Nothing
-    unfolding named_by letter_by up_to indexed
-    symbol-unnamed h = record { same = sym (rw (eq-eqb letter 115 e, lt-leb i 31 h)); sane = tt }
-
-  module _ (e : letter ≡ 115 → ⊥) where
-    pub variable-named : i ≤ 15 → Reads (named_by letter n i) (Here (Variable i) n)
-    unfolding named_by letter_by up_to indexed
-    variable-named h = record { same = sym (rw (ne_eqb letter 115 e, le-leb i 15 h)); sane = h }
-
-    pub variable-unnamed : 15 < i → Reads (named_by letter n i) Nothing
-    unfolding named_by letter_by up_to indexed
-    variable-unnamed h = record { same = sym (rw (ne_eqb letter 115 e, lt-leb i 15 h)); sane = tt }
-
--- ---- the run, byte by byte
-
-pub run-on : (bs : List ℕ) → is_word_byte (get_or bs 0 0) ≡ true → run bs ≡ suc (run (drop 1 bs))
-unfolding is_word_byte
-run-on [] e = no-test (sym e)
-run-on (b ∷ bs) e = run-some b bs e
-
-pub run-off : (bs : List ℕ) → is_word_byte (get_or bs 0 0) ≡ false → run bs ≡ 0
+run-position : (bs : List ℕ) → position_or_len ends_run bs ≡ run bs
 unfolding run
-run-off [] e = refl
-run-off (b ∷ bs) e = rw e
+run-position [] = refl
+run-position (b ∷ bs) = go (is_word_byte b) refl (run-position bs)
+  where
+    go : (t : Bool) → is_word_byte b ≡ t → position_or_len ends_run bs ≡ run bs → position_or_len ends_run (b ∷ bs) ≡ run (b ∷ bs)
+    go true e ih = rw e (omega (arith, ih))
+    go false e ih = rw e
 
--- whether a run ends behind three bytes
-four-end : (w : Bool) (bs : List ℕ) → is_word_byte (get_or bs 0 0) ≡ w → not w ≡ eqb (suc (suc (suc (run bs)))) 3
-four-end true bs e = let n = run-on bs e in sym (ne_eqb _ 3 (λ (z : suc (suc (suc (run bs))) ≡ 3). omega arith))
-four-end false bs e = rw (run-off bs e)
+pub run_within : (bs : List ℕ) → run bs ≤ length bs
+unfolding run
+run_within [] = omega arith
+run_within (b ∷ bs) = go (is_word_byte b) refl (run_within bs)
+  where
+    go : (t : Bool) → is_word_byte b ≡ t → run bs ≤ length bs → run (b ∷ bs) ≤ length (b ∷ bs)
+    go true e ih = rw e (omega arith)
+    go false e ih = rw e (omega arith)
 
--- ---- digits, as the code's tests tell them
+pub run_is : (bs : List ℕ) → unwrap_or (position ends_run bs) (length bs) ≡ run bs
+run_is bs = rw (run-position bs) (go (ltb (run bs) (length bs)) refl)
+  where
+    go : (t : Bool) → ltb (run bs) (length bs) ≡ t → unwrap_or (cond (ltb (run bs) (length bs)) (Some (run bs)) None) (length bs) ≡ run bs
+    go true e = rw e
+    go false e = rw e (omega (arith, run_within bs, ltb-false (run bs) (length bs) e))
 
-module _ {q : Bool} (a : ℕ) (e : q ≡ is_digit a) (t : not q ≡ false) where
-  pub told-low : 48 ≤ a
-  told-low = digit-low a (sym e ∙ not-false _ t)
+pub run-end : run [] ≡ 0
+unfolding run
+run-end = refl
 
-  told-high : a ≤ 57
-  told-high = digit-high a (sym e ∙ not-false _ t)
+pub run-skips : (b : ℕ) (bs : List ℕ) → is_word_byte b ≡ true → run (b ∷ bs) ≡ suc (run bs)
+unfolding run
+run-skips b bs e = rw e
 
-  pub tens-fit : Fits w8 (10 * (a - 48))
-  tens-fit = omega (arith, told-low, told-high)
-
-  pub index-fits : {s : Bool} (b : ℕ) → s ≡ is_digit b → not s ≡ false → Fits w8 (10 * (a - 48) + (b - 48))
-  index-fits b f u = omega (arith, told-low, told-high, digit-low b (sym f ∙ not-false _ u), digit-high b (sym f ∙ not-false _ u))
+pub run-stops : (b : ℕ) (bs : List ℕ) → is_word_byte b ≡ false → run (b ∷ bs) ≡ 0
+unfolding run
+run-stops b bs e = rw e
 
 -- ---- an index
 
-and-false : (t : Bool) → t && false ≡ false
-and-false true = refl
-and-false false = refl
-
-module _ (most n : ℕ) (bs : List ℕ) where
-  no-digits : digits n bs ≡ false → index_of most n bs ≡ none
-  unfolding index_of
-  no-digits e = rw (e, and-false, and-false)
-
-  too-long : 2 < n → index_of most n bs ≡ none
-  unfolding index_of
-  too-long h = rw (lt-leb n 2 h, and-false)
-
-index-no-first : (most n : ℕ) (bs : List ℕ) → is_digit (get_or bs 0 0) ≡ false → index_of most n bs ≡ none
-unfolding index_of digits
-index-no-first most zero bs e = refl
-index-no-first most (suc n) [] e = no-digits most (suc n) [] refl
-index-no-first most (suc n) (b ∷ bs) e = no-digits most (suc n) (b ∷ bs) (rw e)
-
-digits-no-second : (n : ℕ) (bs : List ℕ) → is_digit (get_or bs 1 0) ≡ false → digits (suc (suc n)) bs ≡ false
-unfolding digits
-digits-no-second n [] e = refl
-digits-no-second n (a ∷ []) e = and-false (is_digit a)
-digits-no-second n (a ∷ b ∷ bs) e = rw (e, and-false)
-
-zero-digit : {X : Type 0} → is_digit 0 ≡ true → X
-unfolding is_digit
-zero-digit e = no-test (sym e)
-
-index-one : (most : ℕ) (bs : List ℕ) → is_digit (get_or bs 0 0) ≡ true → index_of most 1 bs ≡ up_to most (get_or bs 0 0 - 48)
-unfolding index_of digits value value_from up_to
-index-one most [] e = zero-digit e
-index-one most (a ∷ bs) e = let v : 10 * 0 + (a - 48) ≡ a - 48 = omega arith in rw (e, v)
-
--- what two digits say
-two-digits : (a b : ℕ) → 10 * (10 * 0 + (a - 48)) + (b - 48) ≡ 10 * (a - 48) + (b - 48)
-two-digits a b = omega arith
-
-index-two : (most : ℕ) (bs : List ℕ) → is_digit (get_or bs 0 0) ≡ true → is_digit (get_or bs 1 0) ≡ true → (get_or bs 0 0 ≡ 48 → ⊥)
-    → index_of most 2 bs ≡ up_to most (10 * (get_or bs 0 0 - 48) + (get_or bs 1 0 - 48))
-unfolding index_of digits value value_from up_to
-index-two most [] d e h = zero-digit d
-index-two most (a ∷ []) d e h = zero-digit e
-index-two most (a ∷ b ∷ bs) d e h = rw (d, e, two-digits, le-ltb (10 * (a - 48) + (b - 48)) 10 (omega (arith, digit-low a d)))
-
-index-zero : (most : ℕ) (bs : List ℕ) → is_digit (get_or bs 0 0) ≡ true → is_digit (get_or bs 1 0) ≡ true → get_or bs 0 0 ≡ 48 → index_of most 2 bs ≡ none
-unfolding index_of digits value value_from
-index-zero most [] d e h = zero-digit d
-index-zero most (a ∷ []) d e h = zero-digit e
-index-zero most (a ∷ b ∷ bs) d e h = rw (d, e, two-digits, lt-ltb (10 * (a - 48) + (b - 48)) 10 (omega (arith, digit-high b e)))
-
--- ---- a letter and its index
-
-name-none : (letter : ℕ) (rest : List ℕ) → ((most : ℕ) → index_of most (run rest) rest ≡ none) → Reads (name_by letter rest) Nothing
-unfolding name_by letter_by indexed
-name-none letter rest h = record { same = sym (rw (h 31, h 15) (go (eqb letter 115))); sane = tt }
+no-digit : (b : ℕ) → (48 ≤ b → b < 58 → ⊥) → is_digit b ≡ false
+no-digit b h = go (is_digit b) refl
   where
-    go : (t : Bool) → cond t nothing nothing ≡ nothing
-    go true = refl
-    go false = refl
+    go : (t : Bool) → is_digit b ≡ t → is_digit b ≡ false
+    go true e = absurd (h (digit-low b e) (omega (arith, digit-high b e)))
+    go false e = e
 
-name-same : (letter : ℕ) (rest : List ℕ) (n i : ℕ) → run rest ≡ n → ((most : ℕ) → index_of most n rest ≡ up_to most i)
-    → name_by letter rest ≡ named_by letter (suc n) i
-unfolding name_by named_by
-name-same letter rest n i e h = rw (e, h 31, h 15)
+-- a slice behind the first k bytes, as the code has it
+abbrev from : ℕ → List ℕ → List ℕ
+from k bs = take (length bs - k) (drop k bs)
 
--- the bytes behind a place, as the code reads them
-module _ (text : List ℕ) (at : ℕ) (letter : ℕ) {a : ℕ} (first : a ≡ byte_at text (at + 1)) where
-  byte-0 : get_or (behind text at) 0 0 ≡ a
-  byte-0 = get_or-drop (at + 1) text 0 0 ∙ (let e : at + 1 + 0 ≡ at + 1 = omega arith in rw e (sym first))
+from-is : (k : ℕ) (bs : List ℕ) → from k bs ≡ drop k bs
+from-is zero bs = let less : length bs - 0 ≡ length bs = omega arith in rw (less, take-length bs)
+from-is (suc k) [] = let none : 0 - suc k ≡ 0 = omega arith in rw none
+from-is (suc k) (b ∷ bs) = let less : suc (length bs) - suc k ≡ length bs - k = omega arith in rw less (from-is k bs)
 
-  pub name-no-digit : {q : Bool} → q ≡ is_digit a → not q ≡ true → Reads (name_by letter (behind text at)) Nothing
-  name-no-digit e t =
-      name-none letter (behind text at) (λ most. index-no-first most (run (behind text at)) (behind text at) (rw byte-0 (sym e ∙ not-true _ t)))
+-- the index i of a word of n bytes, where no bytes of the word are left
+abbrev ends : ℕ → ℕ → ℕ → ℕ → Option (ℕ × ℕ)
+ends i n most left = cond (leb i most && not (ltb 0 left)) (Some (i, n)) None
 
-  module _ {q : Bool} (digit : q ≡ is_digit a) (is : not q ≡ false) {b : ℕ} (second : b ≡ byte_at text (at + 2)) {w : Bool} (word : w ≡ is_word_byte b) where
-    digit-0 : is_digit (get_or (behind text at) 0 0) ≡ true
-    digit-0 = rw byte-0 (sym digit ∙ not-false _ is)
+ends-none : (i n most left : ℕ) → 0 < left → ends i n most left ≡ None
+ends-none i n most left h = rw (lt-ltb 0 left h, and-false (leb i most))
 
-    byte-1 : get_or (behind text at) 1 0 ≡ b
-    byte-1 = get_or-drop (at + 1) text 1 0 ∙ (let e : at + 1 + 1 ≡ at + 2 = omega arith in rw e (sym second))
+module _ (most : ℕ) where
+  too-long : (n : ℕ) (bs : List ℕ) → 2 < n → index_of most n bs ≡ none
+  unfolding index_of
+  too-long n bs h = rw (lt-leb n 2 h, and-false (leb 1 n))
 
-    run-1 : run (behind text at) ≡ suc (run (drop 1 (behind text at)))
-    run-1 = run-on (behind text at) (digit-word _ digit-0)
+  no-digits : (n : ℕ) (bs : List ℕ) → digits n bs ≡ false → index_of most n bs ≡ none
+  unfolding index_of
+  no-digits n bs e = rw (e, and-false (leb n 2), and-false (leb 1 n))
 
-    word-1 : is_word_byte (get_or (drop 1 (behind text at)) 0 0) ≡ w
-    word-1 = rw (get_or-drop 1 (behind text at) 0 0, byte-1) (sym word)
+  no-bytes : (bs : List ℕ) → index_of most 0 bs ≡ none
+  unfolding index_of
+  no-bytes bs = refl
 
-    pub name-one : {r : CodeFound} → not w ≡ true → Reads (named_by letter 2 (a - 48)) r → Reads (name_by letter (behind text at)) r
-    name-one t h =
-        let n : run (behind text at) ≡ 1 = run-1 ∙ ap suc (run-off (drop 1 (behind text at)) (word-1 ∙ not-true _ t)) in
-        let same : (most : ℕ) → index_of most 1 (behind text at) ≡ up_to most (a - 48) =
-        λ most. index-one most (behind text at) digit-0 ∙ rw byte-0 in
-        reads-same (name-same letter (behind text at) 1 (a - 48) n same) h
+  one-ends : (a : ℕ) (bs : List ℕ) → is_digit a ≡ true → index_found 2 (index_of most 1 (a ∷ bs)) ≡ ends (a - 48) 2 most 0
+  unfolding index_of digits value value_from
+  one-ends a bs d = let v : 10 * 0 + (a - 48) ≡ a - 48 = omega arith in rw (d, v) (up (leb (a - 48) most))
+    where
+      up : (t : Bool) → index_found 2 (cond t (definition.some (a - 48)) none) ≡ cond (t && true) (Some (a - 48, 2)) None
+      up true = refl
+      up false = refl
 
-    -- a second byte of the run
-    module _ (more : not w ≡ false) where
-      run-2 : run (behind text at) ≡ suc (suc (run (drop 2 (behind text at))))
-      run-2 = run-1 ∙ ap suc (run-on (drop 1 (behind text at)) (word-1 ∙ not-false _ more) ∙ ap (λ l. suc (run l)) (drop-drop 1 1 (behind text at)))
+  zero-first : (a b : ℕ) (bs : List ℕ) → is_digit a ≡ true → (49 ≤ a → is_digit b ≡ true → ⊥) → index_of most 2 (a ∷ b ∷ bs) ≡ none
+  unfolding index_of digits value value_from
+  zero-first a b bs d other = go (is_digit b) (leb 49 a) refl refl
+    where
+      go : (p q : Bool) → is_digit b ≡ p → leb 49 a ≡ q → index_of most 2 (a ∷ b ∷ bs) ≡ none
+      go false q f g = rw (d, f)
+      go true true f g = absurd (other (leb-true 49 a g) f)
+      go true false f g =
+          let less : a < 49 = leb-false 49 a g in
+          let high : b ≤ 57 = digit-high b f in
+          let small : ltb (10 * (10 * 0 + (a - 48)) + (b - 48)) 10 ≡ true = lt-ltb (10 * (10 * 0 + (a - 48)) + (b - 48)) 10 (omega arith) in
+          rw (d, f, small)
 
-      pub name-letter : {s : Bool} → s ≡ is_digit b → not s ≡ true → Reads (name_by letter (behind text at)) Nothing
-      name-letter e t =
-          name-none letter (behind text at) (λ most. no-digits most _ _
-          (rw run-2 (digits-no-second (run (drop 2 (behind text at))) (behind text at) (rw byte-1 (sym e ∙ not-true _ t)))))
+  two-end : (a b : ℕ) (bs : List ℕ) → 49 ≤ a → is_digit a ≡ true → is_digit b ≡ true
+      → index_found 3 (index_of most 2 (a ∷ b ∷ bs)) ≡ ends (10 * (a - 48) + (b - 48)) 3 most 0
+  unfolding index_of digits value value_from
+  two-end a b bs l d e =
+      let v : 10 * (10 * 0 + (a - 48)) + (b - 48) ≡ 10 * (a - 48) + (b - 48) = omega arith in
+      rw (d, e, v, le-ltb (10 * (a - 48) + (b - 48)) 10 (omega arith)) (up (leb (10 * (a - 48) + (b - 48)) most))
+    where
+      up : (t : Bool) → index_found 3 (cond t (definition.some (10 * (a - 48) + (b - 48))) none) ≡ cond (t && true) (Some (10 * (a - 48) + (b - 48), 3)) None
+      up true = refl
+      up false = refl
 
-      module _ {s : Bool} (digit' : s ≡ is_digit b) (is' : not s ≡ false) {x : ℕ} (third : x ≡ byte_at text (at + 3))
-          {v : Bool} (word' : v ≡ is_word_byte x) where
-        digit-1 : is_digit (get_or (behind text at) 1 0) ≡ true
-        digit-1 = rw byte-1 (sym digit' ∙ not-false _ is')
+  one-digit : (a : ℕ) (bs : List ℕ) → is_digit a ≡ true → (1 ≤ length bs → 49 ≤ a → is_digit (get_or bs 0 0) ≡ true → ⊥)
+      → index_found (suc (run (a ∷ bs))) (index_of most (run (a ∷ bs)) (a ∷ bs)) ≡ ends (a - 48) 2 most (run bs)
+  one-digit a bs d one = rw (run-skips a bs (digit-word a d)) (go bs (run bs) refl one)
+    where
+      go : (bs : List ℕ) (n : ℕ) → run bs ≡ n → (1 ≤ length bs → 49 ≤ a → is_digit (get_or bs 0 0) ≡ true → ⊥)
+          → index_found (suc (suc n)) (index_of most (suc n) (a ∷ bs)) ≡ ends (a - 48) 2 most n
+      go bs zero e one = one-ends a bs d
+      go [] (suc n) e one = absurd (omega (arith, run_within [], e))
+      go (b ∷ bs) (suc zero) e one = rw (zero-first a b bs d (one (omega arith)), ends-none (a - 48) 2 most 1 (omega arith))
+      go (b ∷ bs) (suc (suc n)) e one =
+          rw (too-long (suc (suc (suc n))) (a ∷ b ∷ bs) (omega arith), ends-none (a - 48) 2 most (suc (suc n)) (omega arith))
 
-        word-2 : is_word_byte (get_or (drop 2 (behind text at)) 0 0) ≡ v
-        word-2 =
-            let e : at + 1 + 2 ≡ at + 3 = omega arith in
-            rw (get_or-drop 2 (behind text at) 0 0, get_or-drop (at + 1) text 2 0, e, ← third) (sym word')
+  two-digits : (a b : ℕ) (bs : List ℕ) → 49 ≤ a → is_digit a ≡ true → is_digit b ≡ true
+      → index_found (suc (run (a ∷ b ∷ bs))) (index_of most (run (a ∷ b ∷ bs)) (a ∷ b ∷ bs)) ≡ ends (10 * (a - 48) + (b - 48)) 3 most (run bs)
+  two-digits a b bs l d e = rw (run-skips a (b ∷ bs) (digit-word a d), run-skips b bs (digit-word b e)) (go (run bs))
+    where
+      go : (n : ℕ) → index_found (suc (suc (suc n))) (index_of most (suc (suc n)) (a ∷ b ∷ bs)) ≡ ends (10 * (a - 48) + (b - 48)) 3 most n
+      go zero = two-end a b bs l d e
+      go (suc n) =
+          rw (too-long (suc (suc (suc n))) (a ∷ b ∷ bs) (omega arith), ends-none (10 * (a - 48) + (b - 48)) 3 most (suc n) (omega arith))
 
-        pub name-long : v ≡ true → Reads (name_by letter (behind text at)) Nothing
-        name-long t =
-            let n = run-2 ∙ ap (λ k. suc (suc k)) (run-on (drop 2 (behind text at)) (word-2 ∙ t)) in
-            name-none letter (behind text at) (λ most. too-long most _ _ (omega (arith, n)))
+  module _ (bs : List ℕ) where
+    pub no_index : (1 ≤ length bs → 48 ≤ get_or bs 0 0 → get_or bs 0 0 < 58 → ⊥) → None ≡ index_found (suc (run bs)) (index_of most (run bs) bs)
+    unfolding digits
+    no_index h = sym (go bs (run bs) h)
+      where
+        go : (bs : List ℕ) (n : ℕ) → (1 ≤ length bs → 48 ≤ get_or bs 0 0 → get_or bs 0 0 < 58 → ⊥) → index_found (suc n) (index_of most n bs) ≡ None
+        go bs zero h = rw (no-bytes bs)
+        go [] (suc n) h = rw (no-digits (suc n) [] refl)
+        go (b ∷ bs) (suc n) h = let no : digits (suc n) (b ∷ bs) ≡ false = rw (no-digit b (h (omega arith))) in rw (no-digits (suc n) (b ∷ bs) no)
 
-        module _ (ends : v ≡ false) where
-          two : run (behind text at) ≡ 2
-          two = run-2 ∙ ap (λ k. suc (suc k)) (run-off (drop 2 (behind text at)) (word-2 ∙ ends))
+    module _ {r : Option (ℕ × ℕ)} {i : ℕ} where
+      pub ones_index : 1 ≤ length bs → 48 ≤ get_or bs 0 0 → get_or bs 0 0 < 58
+          → (2 ≤ length bs → 49 ≤ get_or bs 0 0 → get_or bs 0 0 < 58 → 48 ≤ get_or bs 1 0 → get_or bs 1 0 < 58 → ⊥)
+          → i ≡ get_or bs 0 0 - 48 → r ≡ ends i 2 most (run (from 1 bs)) → r ≡ index_found (suc (run bs)) (index_of most (run bs) bs)
+      ones_index some l h two is e = e ∙ rw (is, from-is 1 bs) (sym (go bs some l h two))
+        where
+          go : (bs : List ℕ) → 1 ≤ length bs → 48 ≤ get_or bs 0 0 → get_or bs 0 0 < 58
+              → (2 ≤ length bs → 49 ≤ get_or bs 0 0 → get_or bs 0 0 < 58 → 48 ≤ get_or bs 1 0 → get_or bs 1 0 < 58 → ⊥)
+              → index_found (suc (run bs)) (index_of most (run bs) bs) ≡ ends (get_or bs 0 0 - 48) 2 most (run (drop 1 bs))
+          go [] some l h two = absurd (omega arith)
+          go (a ∷ bs) some l h two =
+              one-digit a bs (digit-is a l (omega arith))
+              (λ (s : 1 ≤ length bs) (g : 49 ≤ a) (f : is_digit (get_or bs 0 0) ≡ true).
+              two (omega arith) g h (digit-low (get_or bs 0 0) f) (omega (arith, digit-high (get_or bs 0 0) f)))
 
-          pub name-zero : a - 48 ≡ 0 → Reads (name_by letter (behind text at)) Nothing
-          name-zero e =
-              let zero : a ≡ 48 = let low = told-low a digit is in omega arith in
-              name-none letter (behind text at) (λ most. rw two (index-zero most (behind text at) digit-0 digit-1 (byte-0 ∙ zero)))
+      pub tens_index : 2 ≤ length bs → 49 ≤ get_or bs 0 0 → get_or bs 0 0 < 58 → 48 ≤ get_or bs 1 0 → get_or bs 1 0 < 58
+          → i ≡ 10 * (get_or bs 0 0 - 48) + (get_or bs 1 0 - 48) → r ≡ ends i 3 most (run (from 2 bs))
+          → r ≡ index_found (suc (run bs)) (index_of most (run bs) bs)
+      tens_index some l h m k is e = e ∙ rw (is, from-is 2 bs) (sym (go bs some l h m k))
+        where
+          go : (bs : List ℕ) → 2 ≤ length bs → 49 ≤ get_or bs 0 0 → get_or bs 0 0 < 58 → 48 ≤ get_or bs 1 0 → get_or bs 1 0 < 58
+              → index_found (suc (run bs)) (index_of most (run bs) bs) ≡ ends (10 * (get_or bs 0 0 - 48) + (get_or bs 1 0 - 48)) 3 most (run (drop 2 bs))
+          go [] some l h m k = absurd (omega arith)
+          go (a ∷ []) some l h m k = absurd (omega arith)
+          go (a ∷ b ∷ bs) some l h m k = two-digits a b bs l (digit-is a (omega arith) (omega arith)) (digit-is b m (omega arith))
 
-          pub name-two : {r : CodeFound} → (a - 48 ≡ 0 → ⊥) → Reads (named_by letter 3 (10 * (a - 48) + (b - 48))) r → Reads (name_by letter (behind text at)) r
-          name-two e h =
-              let some : get_or (behind text at) 0 0 ≡ 48 → ⊥ =
-              λ (z : get_or (behind text at) 0 0 ≡ 48). e (let y : a ≡ 48 = sym byte-0 ∙ z in omega arith) in
-              let same : (most : ℕ) → index_of most 2 (behind text at) ≡ up_to most (10 * (a - 48) + (b - 48)) =
-              λ most. index-two most (behind text at) digit-0 digit-1 some ∙ rw (byte-0, byte-1) in
-              reads-same (name-same letter (behind text at) 2 (10 * (a - 48) + (b - 48)) two same) h
+-- ---- whether a run goes on
 
--- ---- `true` and `fail`
+-- the first byte is there
+first-run : (bs : List ℕ) → 1 ≤ length bs → ltb 0 (run bs) ≡ is_word_byte (get_or bs 0 0)
+first-run [] h = absurd (omega arith)
+first-run (b ∷ bs) h = go (is_word_byte b) refl
+  where
+    go : (t : Bool) → is_word_byte b ≡ t → ltb 0 (run (b ∷ bs)) ≡ is_word_byte b
+    go true e = rw (run-skips b bs e, e, lt-ltb 0 (suc (run bs)) (omega arith))
+    go false e = rw (run-stops b bs e, e)
 
-module _ (text : List ℕ) (at : ℕ) (second third fourth : ℕ) (p : is_word_byte second ≡ true) (q : is_word_byte third ≡ true) (r : is_word_byte fourth ≡ true)
-    {a : ℕ} (is-a : a ≡ byte_at text (at + 1)) where
-  spelled : begins (second ∷ third ∷ fourth ∷ []) (behind text at)
-      ≡ (eqb a second && (eqb (get_or text (at + 2) 0) third && (eqb (get_or text (at + 3) 0) fourth && true)))
-  unfolding begins
-  spelled =
-      let e₁ : suc (at + 1) ≡ at + 2 = omega arith in
-      let e₂ : suc (at + 2) ≡ at + 3 = omega arith in
-      begins-at second (third ∷ fourth ∷ []) text (at + 1) (omega (arith, word-some second p))
-      ∙ rw (← is-a, e₁) (ap (λ t. eqb a second && t) (begins-at third (fourth ∷ []) text (at + 2) (omega (arith, word-some third q))
-      ∙ rw e₂ (ap (λ t. eqb (get_or text (at + 2) 0) third && t) (begins-at fourth [] text (at + 3) (omega (arith, word-some fourth r))))))
+module _ (bs : List ℕ) where
+  pub no_byte : length bs < 1 → false ≡ ltb 0 (run bs)
+  no_byte h = let none : run bs ≡ 0 = omega (arith, run_within bs) in rw none
 
-  pub second-not : (a ≡ second → ⊥) → false ≡ (eqb (run (behind text at)) 3 && begins (second ∷ third ∷ fourth ∷ []) (behind text at))
-  second-not n = sym (rw (spelled, ne_eqb a second n, and-false))
+  module _ (some : 1 ≤ length bs) where
+    pub goes : true ≡ is_word_byte (get_or bs 0 0) → true ≡ ltb 0 (run bs)
+    goes e = e ∙ sym (first-run bs some)
 
-  module _ (a-is : a ≡ second) {b : ℕ} (is_b : b ≡ byte_at text (at + 2)) where
-    pub third-not : (b ≡ third → ⊥) → false ≡ (eqb (run (behind text at)) 3 && begins (second ∷ third ∷ fourth ∷ []) (behind text at))
-    third-not n = sym (rw (spelled, ← is_b, ne_eqb b third n, and-false, and-false))
+    pub stops : false ≡ is_word_byte (get_or bs 0 0) → false ≡ ltb 0 (run bs)
+    stops e = e ∙ sym (first-run bs some)
 
-    module _ (b-is : b ≡ third) {d : ℕ} (is-d : d ≡ byte_at text (at + 3)) where
-      pub fourth-not : (d ≡ fourth → ⊥) → false ≡ (eqb (run (behind text at)) 3 && begins (second ∷ third ∷ fourth ∷ []) (behind text at))
-      fourth-not n = sym (rw (spelled, ← is-d, ne_eqb d fourth n, and-false, and-false, and-false))
+-- ---- a keyword's bytes alone
 
-      module _ (d-is : d ≡ fourth) {x : ℕ} (is_x : x ≡ byte_at text (at + 4)) {w : Bool} (word : w ≡ is_word_byte x) where
-        three-on : run (behind text at) ≡ suc (suc (suc (run (drop (at + 4) text))))
-        three-on =
-            let e₂ : at + 1 + 1 ≡ at + 2 = omega arith in
-            let e₃ : at + 2 + 1 ≡ at + 3 = omega arith in
-            let e₄ : at + 3 + 1 ≡ at + 4 = omega arith in
-            on-at (at + 1) (rw (← is-a, a-is) p) ∙ rw e₂ (ap suc (on-at (at + 2) (rw (← is_b, b-is) q)
-            ∙ rw e₃ (ap suc (on-at (at + 3) (rw (← is-d, d-is) r) ∙ rw e₄))))
-          where
-            on-at : (i : ℕ) → is_word_byte (get_or text i 0) ≡ true → run (drop i text) ≡ suc (run (drop (i + 1) text))
-            on-at i e =
-                let z : i + 0 ≡ i = omega arith in
-                run-on (drop i text) (rw (get_or-drop i text 0 0, z) e) ∙ rw (drop-drop 1 i text)
+begins-take : (s bs : List ℕ) → begins s (take (length s) bs) ≡ begins s bs
+unfolding begins
+begins-take [] bs = refl
+begins-take (x ∷ s) [] = refl
+begins-take (x ∷ s) (b ∷ bs) = rw (begins-take s bs)
 
-        pub all-four : not w ≡ (eqb (run (behind text at)) 3 && begins (second ∷ third ∷ fourth ∷ []) (behind text at))
-        all-four =
-            let z : at + 4 + 0 ≡ at + 4 = omega arith in
-            let last : is_word_byte (get_or (drop (at + 4) text) 0 0) ≡ w = rw (get_or-drop (at + 4) text 0 0, z, ← is_x) (sym word) in
-            rw (spelled, ← is_b, ← is-d, eq-eqb a second a-is, eq-eqb b third b-is, eq-eqb d fourth d-is, three-on)
-            (four-end w (drop (at + 4) text) last ∙ sym (and-true _))
+keyword-take : (n : ℕ) (bs : List ℕ) → keyword n (take n bs) ≡ keyword n bs
+unfolding keyword
+keyword-take n bs = go (eqb n 4) refl
+  where
+    go : (t : Bool) → eqb n 4 ≡ t → keyword n (take n bs) ≡ keyword n bs
+    go true e = let four = eqb-true n 4 e in rw (four, begins-take (116 ∷ 114 ∷ 117 ∷ 101 ∷ []) bs, begins-take (102 ∷ 97 ∷ 105 ∷ 108 ∷ []) bs)
+    go false e = rw e
+
+-- ---- a word by its first byte
+
+abbrev first : List ℕ → ℕ
+first w = get_or w 0 0
+
+-- an index says where it ends
+no-index-found : (n : ℕ) (o : definition.Option ℕ) → None ≡ index_found n o → o ≡ none
+no-index-found n none e = refl
+no-index-found n (definition.some i) e = absurd (let z : ◌≡◌ {A = Option (ℕ × ℕ)} None (Some (i, n)) = e in cc)
+
+an-index-found : (n : ℕ) (o : definition.Option ℕ) {p : ℕ × ℕ} → Some p ≡ index_found n o → (o ≡ definition.some p.0) × (p.1 ≡ n)
+an-index-found n none {p} e = absurd (let z : ◌≡◌ {A = Option (ℕ × ℕ)} (Some p) None = e in cc)
+an-index-found n (definition.some i) {p} e =
+    let q : p ≡ (i, n) = (let z : ◌≡◌ {A = Option (ℕ × ℕ)} (Some p) (Some (i, n)) = e in cc) in (rw q, rw q)
+
+module _ (bs : List ℕ) (begun : 0 < run bs) where
+  symbol-word : first bs ≡ 115 → word (run bs) bs ≡ indexed symbol (suc (run (drop 1 bs))) (index_of 31 (run (drop 1 bs)) (drop 1 bs))
+  unfolding word is_word_byte
+  symbol-word e = go bs e
+    where
+      go : (bs : List ℕ) → first bs ≡ 115 → word (run bs) bs ≡ indexed symbol (suc (run (drop 1 bs))) (index_of 31 (run (drop 1 bs)) (drop 1 bs))
+      go [] e = absurd (omega (arith, e))
+      go (b ∷ ds) e =
+          let less : suc (run ds) - 1 ≡ run ds = omega arith in
+          let skips : run (115 ∷ ds) ≡ suc (run ds) = run-skips 115 ds refl in
+          rw (e, skips, less)
+
+  variable-word : first bs ≡ 86
+      → word (run bs) bs ≡ indexed (λ (v : ℕ). slot (variable v)) (suc (run (drop 1 bs))) (index_of 15 (run (drop 1 bs)) (drop 1 bs))
+  unfolding word is_word_byte
+  variable-word e = go bs e
+    where
+      go : (bs : List ℕ) → first bs ≡ 86
+          → word (run bs) bs ≡ indexed (λ (v : ℕ). slot (variable v)) (suc (run (drop 1 bs))) (index_of 15 (run (drop 1 bs)) (drop 1 bs))
+      go [] e = absurd (omega (arith, e))
+      go (b ∷ ds) e =
+          let less : suc (run ds) - 1 ≡ run ds = omega arith in
+          let skips : run (86 ∷ ds) ≡ suc (run ds) = run-skips 86 ds refl in
+          rw (e, skips, less)
+
+  constant-word : (n : ℕ) (w : List ℕ) → 48 ≤ first w → first w < 58 → word n w ≡ constant_of n w
+  unfolding word
+  constant-word n [] h _ = absurd (omega arith)
+  constant-word n (b ∷ ds) h l =
+      rw (ne_eqb b 115 (λ (e : b ≡ 115). omega arith), ne_eqb b 86 (λ (e : b ≡ 86). omega arith), digit-is b h (omega arith))
+
+  other-word : (n : ℕ) (w : List ℕ) → 1 ≤ length w → (first w ≡ 115 → ⊥) → (first w ≡ 86 → ⊥) → (48 ≤ first w → first w < 58 → ⊥) → word n w ≡ keyword n w
+  unfolding word
+  other-word n [] h _ _ _ = absurd (omega arith)
+  other-word n (b ∷ ds) h s v d = rw (ne_eqb b 115 s, ne_eqb b 86 v, no-digit b d)
+
+  -- by the run of the bytes behind the letter, as the code has them
+  module _ {r : Option Spelled} (gone : r ≡ None) where
+    pub no_symbol : first bs ≡ 115 → None ≡ index_found (suc (run (from 1 bs))) (index_of 31 (run (from 1 bs)) (from 1 bs)) → found_of r ≡ word (run bs) bs
+    unfolding indexed
+    no_symbol e h =
+        let n = no-index-found (suc (run (drop 1 bs))) (index_of 31 (run (drop 1 bs)) (drop 1 bs)) (rw (from-is 1 bs) at h) in
+        rw (gone, symbol-word e, n)
+
+    pub no_variable : first bs ≡ 86 → None ≡ index_found (suc (run (from 1 bs))) (index_of 15 (run (from 1 bs)) (from 1 bs)) → found_of r ≡ word (run bs) bs
+    unfolding indexed
+    no_variable e h =
+        let n = no-index-found (suc (run (drop 1 bs))) (index_of 15 (run (drop 1 bs)) (drop 1 bs)) (rw (from-is 1 bs) at h) in
+        rw (gone, variable-word e, n)
+
+  pub a_symbol : {p : ℕ × ℕ} → first bs ≡ 115 → Some p ≡ index_found (suc (run (from 1 bs))) (index_of 31 (run (from 1 bs)) (from 1 bs))
+      → found (symbol p.0) p.1 ≡ word (run bs) bs
+  unfolding indexed
+  a_symbol {p} e h =
+      let f = an-index-found (suc (run (drop 1 bs))) (index_of 31 (run (drop 1 bs)) (drop 1 bs)) (rw (from-is 1 bs) at h) in
+      rw (symbol-word e, f.0, f.1)
+
+  pub a_variable : {p : ℕ × ℕ} → first bs ≡ 86 → Some p ≡ index_found (suc (run (from 1 bs))) (index_of 15 (run (from 1 bs)) (from 1 bs))
+      → found (slot (variable p.0)) p.1 ≡ word (run bs) bs
+  unfolding indexed
+  a_variable {p} e h =
+      let f = an-index-found (suc (run (drop 1 bs))) (index_of 15 (run (drop 1 bs)) (drop 1 bs)) (rw (from-is 1 bs) at h) in
+      rw (variable-word e, f.0, f.1)
+
+  pub a_constant : (r : Option Spelled) → 48 ≤ first bs → first bs < 58 → found_of r ≡ constant_of (run bs) bs → found_of r ≡ word (run bs) bs
+  a_constant r l g h = h ∙ sym (constant-word (run bs) bs l g)
+
+  module _ (s : first bs ≡ 115 → ⊥) (v : first bs ≡ 86 → ⊥) (d : 48 ≤ first bs → first bs < 58 → ⊥) {n : ℕ} (is : n ≡ run bs) where
+    whole : keyword (length (take n bs)) (take n bs) ≡ word (run bs) bs
+    whole =
+        let long : length (take n bs) ≡ n = length-take-le n bs (omega (arith, run_within bs)) in
+        rw (long, keyword-take n bs, is) (sym (other-word (run bs) bs (omega (arith, run_within bs)) s v d))
+
+    pub no_other : {r : Option Spelled} → r ≡ None → nothing ≡ keyword (length (take n bs)) (take n bs) → found_of r ≡ word (run bs) bs
+    no_other gone h = rw gone (h ∙ whole)
+
+    pub other : {t : Token} → found t (length (take n bs)) ≡ keyword (length (take n bs)) (take n bs) → found t n ≡ word (run bs) bs
+    other h = let long : length (take n bs) ≡ n = length-take-le n bs (omega (arith, run_within bs)) in rw (← long) (h ∙ whole)
 
 -- ---- keywords
 
-module _ (text : List ℕ) (at : ℕ) (inside : at < length text) (letter : is_word_byte (get_or text at 0) ≡ true) where
-  run-at : run (drop at text) ≡ suc (run (behind text at))
-  run-at = rw (front text at inside refl) (run-some (get_or text at 0) (behind text at) letter)
+module _ (w : List ℕ) (four : 4 ≤ length w) (no_five : length w < 5) where
+  pub true_read : get_or w 0 0 ≡ 116 → get_or w 1 0 ≡ 114 → get_or w 2 0 ≡ 117 → get_or w 3 0 ≡ 101
+      → found (mark true_word) (length w) ≡ keyword (length w) w
+  unfolding keyword begins
+  true_read p q r s = let e = text_from_reads w (116 ∷ 114 ∷ 117 ∷ 101 ∷ []) (omega arith) (p, (q, (r, (s, tt)))) in rw e
 
-  spells : (b : ℕ) (ss : List ℕ) → (eqb (run (drop at text)) 4 && begins (b ∷ ss) (drop at text))
-      ≡ (eqb (run (behind text at)) 3 && (eqb (get_or text at 0) b && begins ss (behind text at)))
-  unfolding begins
-  spells b ss = rw (run-at, front text at inside refl, eqb-suc-suc (run (behind text at)) 3)
+  pub fail_read : get_or w 0 0 ≡ 102 → get_or w 1 0 ≡ 97 → get_or w 2 0 ≡ 105 → get_or w 3 0 ≡ 108
+      → found (mark fail_word) (length w) ≡ keyword (length w) w
+  unfolding keyword begins
+  fail_read p q r s = let e = text_from_reads w (102 ∷ 97 ∷ 105 ∷ 108 ∷ []) (omega arith) (p, (q, (r, (s, tt)))) in rw e
 
-  keyword-is : keyword (run (drop at text)) (drop at text)
-      ≡ cond (eqb (run (behind text at)) 3 && (eqb (get_or text at 0) 116 && begins (114 ∷ 117 ∷ 101 ∷ []) (behind text at))) (found (mark true_word) 4)
-      (cond (eqb (run (behind text at)) 3 && (eqb (get_or text at 0) 102 && begins (97 ∷ 105 ∷ 108 ∷ []) (behind text at))) (found (mark fail_word) 4) nothing)
-  unfolding keyword
-  keyword-is = rw (spells 116 (114 ∷ 117 ∷ 101 ∷ []), spells 102 (97 ∷ 105 ∷ 108 ∷ []))
+begins-is : (s w : List ℕ) → length w ≡ length s → begins s w ≡ true → w ≡ s
+unfolding begins
+begins-is [] [] h e = refl
+begins-is [] (b ∷ w) h e = absurd (omega (arith, h))
+begins-is (x ∷ s) [] h e = absurd (omega (arith, h))
+begins-is (x ∷ s) (b ∷ w) h e = rw (eqb-true b x (and-left (eqb b x) (begins s w) e), begins-is s w (omega (arith, h)) (and-right (eqb b x) (begins s w) e))
 
-  module _ (first : get_or text at 0 ≡ 116) {q : Bool} (is : q ≡ (eqb (run (behind text at)) 3 && begins (114 ∷ 117 ∷ 101 ∷ []) (behind text at))) where
-    pub true-read : q ≡ true → Reads (keyword (run (drop at text)) (drop at text)) (Here (CodeMark 8) 4)
-    unfolding mark_of
-    true-read t = record { same = sym (keyword-is ∙ rw (first, ← is, t)); sane = omega arith }
+pub no_keyword : (w : List ℕ) → (4 ≤ length w → length w < 5 → get_or w 0 0 ≡ 116 → get_or w 1 0 ≡ 114 → get_or w 2 0 ≡ 117 → get_or w 3 0 ≡ 101 → ⊥)
+    → (4 ≤ length w → length w < 5 → get_or w 0 0 ≡ 102 → get_or w 1 0 ≡ 97 → get_or w 2 0 ≡ 105 → get_or w 3 0 ≡ 108 → ⊥)
+    → nothing ≡ keyword (length w) w
+unfolding keyword
+no_keyword w m n = go (eqb (length w) 4) (begins (116 ∷ 114 ∷ 117 ∷ 101 ∷ []) w) (begins (102 ∷ 97 ∷ 105 ∷ 108 ∷ []) w) refl refl refl
+  where
+    go : (l a b : Bool) → eqb (length w) 4 ≡ l → begins (116 ∷ 114 ∷ 117 ∷ 101 ∷ []) w ≡ a → begins (102 ∷ 97 ∷ 105 ∷ 108 ∷ []) w ≡ b
+        → nothing ≡ keyword (length w) w
+    go false a b e p q = rw e
+    go true true b e p q =
+        let four = eqb-true (length w) 4 e in
+        let same = begins-is (116 ∷ 114 ∷ 117 ∷ 101 ∷ []) w four p in
+        absurd (m (omega (arith, four)) (omega (arith, four)) (rw same) (rw same) (rw same) (rw same))
+    go true false true e p q =
+        let four = eqb-true (length w) 4 e in
+        let same = begins-is (102 ∷ 97 ∷ 105 ∷ 108 ∷ []) w four q in
+        absurd (n (omega (arith, four)) (omega (arith, four)) (rw same) (rw same) (rw same) (rw same))
+    go true false false e p q = rw (e, p, q)
 
-    pub true-not : q ≡ false → Reads (keyword (run (drop at text)) (drop at text)) Nothing
-    true-not t = record { same = sym (keyword-is ∙ rw (first, ← is, t, and-false)); sane = tt }
+pub ruleset run_rules = (run_is, run_within)
 
-  module _ (first : get_or text at 0 ≡ 102) {q : Bool} (is : q ≡ (eqb (run (behind text at)) 3 && begins (97 ∷ 105 ∷ 108 ∷ []) (behind text at))) where
-    pub fail-read : q ≡ true → Reads (keyword (run (drop at text)) (drop at text)) (Here (CodeMark 9) 4)
-    unfolding mark_of
-    fail-read t = record { same = sym (keyword-is ∙ rw (first, and-false, ← is, t)); sane = omega arith }
+pub ruleset goes_on_rules = (no_byte, goes, stops)
 
-    pub fail-not : q ≡ false → Reads (keyword (run (drop at text)) (drop at text)) Nothing
-    fail-not t = record { same = sym (keyword-is ∙ rw (first, and-false, ← is, t)); sane = tt }
+pub ruleset index_rules = (no_index, ones_index, tens_index)
 
-  pub no-keyword : (get_or text at 0 ≡ 116 → ⊥) → (get_or text at 0 ≡ 102 → ⊥) → Reads (keyword (run (drop at text)) (drop at text)) Nothing
-  no-keyword m n = record { same = sym (keyword-is ∙ rw (ne_eqb (get_or text at 0) 116 m, ne_eqb (get_or text at 0) 102 n, and-false)); sane = tt }
+pub ruleset keyword_rules = (true_read, fail_read, no_keyword)
 
-  -- ---- words
-
-  word-is : word (run (drop at text)) (drop at text)
-      ≡ cond (eqb (get_or text at 0) 115) (name_by 115 (behind text at))
-      (cond (eqb (get_or text at 0) 86) (name_by 86 (behind text at))
-      (cond (is_digit (get_or text at 0)) (constant_of (run (drop at text)) (drop at text)) (keyword (run (drop at text)) (drop at text))))
-  unfolding word name_by letter_by
-  word-is =
-      let less : suc (run (behind text at)) - 1 ≡ run (behind text at) = omega arith in
-      rw (front text at inside refl, run-some (get_or text at 0) (behind text at) letter, less)
-
-  module _ {r : CodeFound} where
-    pub word-symbol : get_or text at 0 ≡ 115 → Reads (name_by (get_or text at 0) (behind text at)) r → Reads (word (run (drop at text)) (drop at text)) r
-    word-symbol e h = reads-same (word-is ∙ rw e) h
-
-    module _ (no_symbol : get_or text at 0 ≡ 115 → ⊥) where
-      pub word-variable : get_or text at 0 ≡ 86 → Reads (name_by (get_or text at 0) (behind text at)) r → Reads (word (run (drop at text)) (drop at text)) r
-      word-variable e h = reads-same (word-is ∙ rw e) h
-
-      module _ (no-variable : get_or text at 0 ≡ 86 → ⊥) {q : Bool} (digit : q ≡ is_digit (get_or text at 0)) where
-        pub word-constant : q ≡ true → Reads (constant_of (run (drop at text)) (drop at text)) r → Reads (word (run (drop at text)) (drop at text)) r
-        word-constant t h =
-            reads-same (word-is ∙ rw (ne_eqb (get_or text at 0) 115 no_symbol, ne_eqb (get_or text at 0) 86 no-variable, ← digit, t)) h
-
-        pub word-other : q ≡ false → Reads (keyword (run (drop at text)) (drop at text)) r → Reads (word (run (drop at text)) (drop at text)) r
-        word-other t h =
-            reads-same (word-is ∙ rw (ne_eqb (get_or text at 0) 115 no_symbol, ne_eqb (get_or text at 0) 86 no-variable, ← digit, t)) h
+pub ruleset word_rules = (no_symbol, no_variable, no_other, a_symbol, a_variable, a_constant, other)

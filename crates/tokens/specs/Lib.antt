@@ -1,4 +1,3 @@
--- What the code finds at a place of a text, as the definitions have it.
+-- What the code finds at the front of some bytes, as the definitions have it.
 pub mod Views
 pub mod Numerals
-pub mod Names

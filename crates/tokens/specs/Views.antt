@@ -1,60 +1,67 @@
--- A token of the code as one of the definition, and what the code finds at a place.
-use Rattle.std.specs.Prelude.{ℕ, ◌+◌, ◌≤◌, ◌≡◌, Bool, List, [], ◌∷◌, length, get_or, drop}
-use Rattle.numbers.specs.Laws.{InRange}
-use Rattle.grammar.specs.Tree.{constant, variable}
-use Rattle.grammar.specs.Layout.{comparator_of, operation_of}
+-- A token of the code as one of the definition, and what the code finds at the front of some bytes.
+use Rattle.std.specs.Prelude.{ℕ, ℤ, Option, Some, None}
+use Rattle.std.proofs.Math.Option as definition
+use Rattle.std.proofs.Math.Option.{some, none}
+use Rattle.grammar.specs.Tree.{constant, variable, Comparator, equal, unequal, less, at_most, greater, at_least}
+use Rattle.grammar.specs.Tree.{Operation, sum, difference, product, quotient, remainder}
 use Rattle.text.specs.Token.{Token, symbol, slot, compares, operates, mark, Mark, backslash, simplifies, propagates, bar, opens, closes, comma, stop}
 use Rattle.text.specs.Token.{true_word, fail_word}
-use Rattle.text.specs.Spelling.{Found, found, nothing, token_at}
+use Rattle.text.specs.Spelling.{Found, found, nothing}
+use Rattle.tokens.specs.declared.Mark.{Mark as CodeMark}
+use Rattle.tokens.specs.declared.Mark.TheVariants.{Backslash, Simplifies, Propagates, Bar, Opens, Closes, Comma, Stop, True, Fail}
+use Rattle.tokens.specs.declared.Comparator.{Comparator as CodeComparator}
+use Rattle.tokens.specs.declared.Comparator.TheVariants.{Equal, Unequal, Less, AtMost, Greater, AtLeast}
+use Rattle.tokens.specs.declared.Operation.{Operation as CodeOperation}
+use Rattle.tokens.specs.declared.Operation.TheVariants.{Sum, Difference, Product, Quotient, Remainder}
 use Rattle.tokens.specs.declared.Token.{Token as CodeToken}
-use Rattle.tokens.specs.declared.Token.TheVariants.{Symbol, Variable, Constant, Compares, Operates, Mark as CodeMark}
-use Rattle.tokens.specs.declared.Found.{Found as CodeFound}
-use Rattle.tokens.specs.declared.Found.TheVariants.{Token as Here, Nothing}
+use Rattle.tokens.specs.declared.Token.TheVariants.{Symbol, Variable, Constant, Compares, Operates, Mark as IsMark}
+use Rattle.tokens.specs.declared.Spelled.{Spelled}
 
--- marks by their number
-unfoldable pub mark_of : ℕ → Mark
-mark_of n =
-    get_or (backslash ∷ simplifies ∷ propagates ∷ bar ∷ opens ∷ closes ∷ comma ∷ stop ∷ true_word ∷ fail_word ∷ []) n backslash
+abbrev pub mark_of : CodeMark → Mark
+mark_of Backslash = backslash
+mark_of Simplifies = simplifies
+mark_of Propagates = propagates
+mark_of Bar = bar
+mark_of Opens = opens
+mark_of Closes = closes
+mark_of Comma = comma
+mark_of Stop = stop
+mark_of True = true_word
+mark_of Fail = fail_word
 
--- comparators and operations by the numbers of document 01
+abbrev pub comparator_of : CodeComparator → Comparator
+comparator_of Equal = equal
+comparator_of Unequal = unequal
+comparator_of Less = less
+comparator_of AtMost = at_most
+comparator_of Greater = greater
+comparator_of AtLeast = at_least
+
+abbrev pub operation_of : CodeOperation → Operation
+operation_of Sum = sum
+operation_of Difference = difference
+operation_of Product = product
+operation_of Quotient = quotient
+operation_of Remainder = remainder
+
 abbrev pub token_of : CodeToken → Token
 token_of (Symbol k) = symbol k
 token_of (Variable v) = slot (variable v)
 token_of (Constant z) = slot (constant z)
-token_of (Compares n) = compares (comparator_of n)
-token_of (Operates n) = operates (operation_of n)
-token_of (CodeMark n) = mark (mark_of n)
+token_of (Compares c) = compares (comparator_of c)
+token_of (Operates o) = operates (operation_of o)
+token_of (IsMark m) = mark (mark_of m)
 
--- a number is one of its kind
-abbrev pub Sane : CodeToken → Type 0
-Sane (Symbol k) = k ≤ 31
-Sane (Variable v) = v ≤ 15
-Sane (Constant z) = InRange z
-Sane (Compares n) = n ≤ 5
-Sane (Operates n) = (1 ≤ n) × (n ≤ 5)
-Sane (CodeMark n) = n ≤ 9
+abbrev pub found_of : Option Spelled → Found
+found_of None = nothing
+found_of (Some s) = found (token_of s.token) s.length
 
--- ---- what is found
+-- the parts of words, of n bytes
+abbrev pub mark_found : ℕ → Option CodeMark → Found
+mark_found n None = nothing
+mark_found n (Some m) = found (mark (mark_of m)) n
 
-abbrev pub found_of : CodeFound → Found
-found_of (Here t n) = found (token_of t) n
-found_of Nothing = nothing
-
-abbrev pub FoundSane : CodeFound → Type 0
-FoundSane (Here t n) = Sane t
-FoundSane Nothing = Unit {0}
-
--- the token has a byte, and lies inside the text
-abbrev pub FoundWithin : List ℕ → ℕ → CodeFound → Type 0
-FoundWithin text at (Here t n) = (1 ≤ n) × (at + n ≤ length text)
-FoundWithin text at Nothing = Unit {0}
-
--- r is what the definition finds
-pub record Reads (f : Found) (r : CodeFound) : Type 0 where
-  pub same : found_of r ≡ f
-  pub sane : FoundSane r
-
-pub record FoundAt (text : List ℕ) (at : ℕ) (after : Bool) (r : CodeFound) : Type 0 where
-  pub same : found_of r ≡ token_at after (drop at text)
-  pub sane : FoundSane r
-  pub length : FoundWithin text at r
+-- an index, and the length of its word
+abbrev pub index_found : ℕ → definition.Option ℕ → Option (ℕ × ℕ)
+index_found n none = None
+index_found n (some i) = Some (i, n)

@@ -1,102 +1,56 @@
 // Constants: digits to the end of their run, and a minus before them. A constant out of range is no token.
-ghost use Rattle.std.specs.Prelude.{◌≡◌, ◌+◌, ◌≤◌, ◌<◌, length, drop, true};
-ghost use Rattle.text.specs.Spelling.{is_digit, run, negative, negated, constant_of};
-ghost use Rattle.tokens.specs.Views.{Reads};
-ghost use Rattle.tokens.specs.Numerals.{Grown, DigitsAt};
+ghost use Rattle.std.specs.Prelude.{◌≡◌, ◌≤◌, IfSome, length};
+ghost use Rattle.text.specs.Spelling.{run, constant_of, negated};
+ghost use Rattle.tokens.specs.Views.{found_of};
+ghost use Rattle.tokens.specs.Numerals.{magnitude_of};
 
-use crate::{Found, Token, bytes};
+use crate::bytes::is_word_byte;
+use crate::{Spelled, Token};
 
-// The magnitude of the lowest constant; the highest is one less.
-const MOST: u64 = 2147483648;
-
-// Digits: where they end, and the number they say, or any number above MOST where that is above MOST.
-#[derive(Clone, Copy)]
-pub struct Digits {
-    pub end: usize,
-    pub value: u64,
-}
-
-// A number with one digit more, unless it is above MOST already.
-fn grown(value: u64, digit: u8) -> u64
-    requires value_bound { value < 21474836490 }
-    requires digit_value { is_digit digit ≡ true }
-    ensures { Grown value digit result }
+// The number that the run at the front says, and its length, where all of it are digits and 32 bits hold the number.
+fn magnitude(rest: &[u8]) -> Option<(u32, usize)>
+    ensures value { result ≡ magnitude_of (run rest.now) rest.now }
+    ensures within { IfSome result (λ m. m.1 ≤ length rest.now) }
 {
-    if MOST < value {
-        return value;
-    }
-    let ones = digit - b'0';
-    10 * value + (ones as u64)
-}
-
-fn digits_at(text: &[u8], from: usize) -> Digits
-    requires { from ≤ length text.now }
-    ensures { DigitsAt text.now from result }
-{
-    let mut end = from;
-    let mut value = 0;
-    while end < text.len() {
-        let b = text[end];
-        if !bytes::is_digit(b) {
-            return Digits {
-                end: end,
-                value: value,
+    let mut value: u32 = 0;
+    for (count, &b) in rest.iter().enumerate() {
+        if !b.is_ascii_digit() {
+            return if is_word_byte(b) {
+                None
+            } else {
+                Some((value, count))
             };
         }
-        value = grown(value, b);
-        end += 1;
+        value = value.checked_mul(10)?.checked_add(u32::from(b - b'0'))?;
     }
-    Digits {
-        end: end,
-        value: value,
-    }
+    Some((value, rest.len()))
 }
 
-pub fn constant_at(text: &[u8], at: usize) -> Found
-    requires { at < length text.now }
-    ensures { Reads (constant_of (run (drop at text.now)) (drop at text.now)) result }
+// The constant at the front, without a minus.
+#[tactic(auto, using(crate::proofs::DigitReads::constant_rules))]
+pub fn constant(rest: &[u8]) -> Option<Spelled>
+    ensures { found_of result ≡ constant_of (run rest.now) rest.now }
 {
-    let digits = digits_at(text, at);
-    let end = digits.end;
-    let value = digits.value;
-    if bytes::is_word_byte(wire::byte(text, end)) {
-        return Found::Nothing;
-    }
-    if value < MOST {
-        return Found::Token(Token::Constant(value as i32), end - at);
-    }
-    Found::Nothing
+    let (magnitude, length) = magnitude(rest)?;
+    let value = i32::try_from(magnitude).ok()?;
+    Some(Spelled {
+        token: Token::Constant(value),
+        length,
+    })
 }
 
-// The number of a magnitude, below zero. Counted down from -1, no step leaves 32 bits.
-fn below_zero(magnitude: u64) -> i32
-    requires { magnitude ≤ 2147483648 }
-    ensures { result ≡ negative magnitude }
+// The constant whose digits stand behind a minus, at the front.
+#[tactic(auto, using(crate::proofs::DigitReads::negated_rules))]
+pub fn negated(rest: &[u8]) -> Option<Spelled>
+    ensures { found_of result ≡ negated (run rest.now) rest.now }
 {
-    if magnitude == 0 {
-        return 0;
+    let (magnitude, length) = magnitude(rest)?;
+    if length == 0 {
+        return None;
     }
-    let m = magnitude - 1;
-    -1 - (m as i32)
-}
-
-// The constant whose minus stands at a place.
-pub fn negative_at(text: &[u8], at: usize) -> Found
-    requires { at < length text.now }
-    ensures { Reads (negated (run (drop (at + 1) text.now)) (drop (at + 1) text.now)) result }
-{
-    let from = at + 1;
-    let digits = digits_at(text, from);
-    let end = digits.end;
-    let value = digits.value;
-    if bytes::is_word_byte(wire::byte(text, end)) {
-        return Found::Nothing;
-    }
-    if end == from {
-        return Found::Nothing;
-    }
-    if MOST < value {
-        return Found::Nothing;
-    }
-    Found::Token(Token::Constant(below_zero(value)), end - at)
+    let value = 0i32.checked_sub_unsigned(magnitude)?;
+    Some(Spelled {
+        token: Token::Constant(value),
+        length: length + 1,
+    })
 }

@@ -1,115 +1,95 @@
 // Words: symbols, variables, constants, `true` and `fail`. A word is a whole run of letters and digits.
-ghost use Rattle.std.specs.Prelude.{◌≡◌, [], ◌∷◌, true, ◌&&◌, eqb, ◌+◌, ◌<◌, length, get_or, drop};
-ghost use Rattle.text.specs.Spelling.{is_word_byte, begins, run, keyword, word};
-ghost use Rattle.tokens.specs.Views.{Reads};
-ghost use Rattle.tokens.specs.Names.{named_by, name_by};
+ghost use Rattle.std.specs.Prelude.{◌≡◌, ◌<◌, ◌≤◌, suc, ltb, cond, ◌&&◌, leb, Some, None, length, not, position};
+ghost use Rattle.text.specs.Spelling.{is_word_byte, run, index_of, keyword, word};
+ghost use Rattle.tokens.specs.Views.{found_of, index_found, mark_found};
 
-use crate::{Found, Mark, Token, bytes, numerals};
+use crate::bytes::is_word_byte;
+use crate::{Mark, Spelled, Token, numerals};
 
 const LAST_SYMBOL: u8 = 31;
 
 const LAST_VARIABLE: u8 = 15;
 
-// The symbol or variable of an index, if there is one, and its length.
-fn named(letter: u8, index: u8, length: usize) -> Found
-    ensures { Reads (named_by letter length index) result }
+fn run_end(rest: &[u8]) -> Option<usize>
+    ensures { result ≡ position (λ b. not (is_word_byte b)) rest.now }
 {
-    if letter == b's' {
-        if index <= LAST_SYMBOL {
-            return Found::Token(Token::Symbol(index), length);
+    rest.iter().position(|&b| !is_word_byte(b))
+}
+
+// How many letters and digits stand at the front.
+#[tactic(auto, using(crate::proofs::WordReads::run_rules))]
+pub fn run(rest: &[u8]) -> usize
+    ensures value { result ≡ run rest.now }
+    ensures within { result ≤ length rest.now }
+{
+    run_end(rest).unwrap_or(rest.len())
+}
+
+// Whether a letter or a digit stands at the front.
+#[tactic(auto, using(crate::proofs::WordReads::goes_on_rules))]
+fn goes_on(rest: &[u8]) -> bool
+    ensures { result ≡ ltb 0 (run rest.now) }
+{
+    matches!(rest, [b, ..] if is_word_byte(*b))
+}
+
+// An index and its word's length, where it is at most `most` and the word ends before `rest`.
+fn ended(index: u8, length: usize, most: u8, rest: &[u8]) -> Option<(u8, usize)>
+    ensures { result ≡ cond (leb index most && not (ltb 0 (run rest.now))) (Some (index, length)) None }
+{
+    if index <= most && !goes_on(rest) {
+        Some((index, length))
+    } else {
+        None
+    }
+}
+
+// The index up to `most` behind a letter, and the length of the word:
+// one digit, or two of which the first is not 0.
+#[tactic(auto, using(crate::proofs::WordReads::index_rules))]
+fn index_of(rest: &[u8], most: u8) -> Option<(u8, usize)>
+    ensures { result ≡ index_found (suc (run rest.now)) (index_of most (run rest.now) rest.now) }
+{
+    match rest {
+        [tens @ b'1'..=b'9', ones @ b'0'..=b'9', rest @ ..] => {
+            ended(10 * (*tens - b'0') + (*ones - b'0'), 3, most, rest)
         }
-        return Found::Nothing;
+        [ones @ b'0'..=b'9', rest @ ..] => ended(*ones - b'0', 2, most, rest),
+        _ => None,
     }
-    if index <= LAST_VARIABLE {
-        return Found::Token(Token::Variable(index), length);
-    }
-    Found::Nothing
 }
 
-// The symbol or variable whose letter stands at a place: one digit behind it, or two of which the first is not 0, and no letter or digit more.
-fn named_at(text: &[u8], at: usize, letter: u8) -> Found
-    requires { at < length text.now }
-    ensures { Reads (name_by letter (drop (at + 1) text.now)) result }
+#[tactic(auto, using(crate::proofs::WordReads::keyword_rules))]
+fn keyword(word: &[u8]) -> Option<Mark>
+    ensures { mark_found (length word.now) result ≡ keyword (length word.now) word.now }
 {
-    let first = wire::byte(text, at + 1);
-    if !bytes::is_digit(first) {
-        return Found::Nothing;
+    match word {
+        b"true" => Some(Mark::True),
+        b"fail" => Some(Mark::Fail),
+        _ => None,
     }
-    let tens = first - b'0';
-    let second = wire::byte(text, at + 2);
-    if !bytes::is_word_byte(second) {
-        return named(letter, tens, 2);
-    }
-    if !bytes::is_digit(second) {
-        return Found::Nothing;
-    }
-    let ones = second - b'0';
-    if bytes::is_word_byte(wire::byte(text, at + 3)) {
-        return Found::Nothing;
-    }
-    if tens == 0 {
-        return Found::Nothing;
-    }
-    named(letter, 10 * tens + ones, 3)
 }
 
-// Whether a run of letters and digits goes on behind a place with three bytes and ends there.
-fn goes_on(text: &[u8], at: usize, second: u8, third: u8, fourth: u8) -> bool
-    requires at_in_bounds { at < length text.now }
-    requires second_value { is_word_byte second ≡ true }
-    requires third_value { is_word_byte third ≡ true }
-    requires fourth_value { is_word_byte fourth ≡ true }
-    ensures { result ≡ (eqb (run (drop (at + 1) text.now)) 3
-        && begins (second ∷ third ∷ fourth ∷ []) (drop (at + 1) text.now)) }
+// The word at the front.
+#[tactic(auto, using(crate::proofs::WordReads::word_rules))]
+pub fn word(rest: &[u8]) -> Option<Spelled>
+    requires { 0 < run rest.now }
+    ensures { found_of result ≡ word (run rest.now) rest.now }
 {
-    if wire::byte(text, at + 1) != second {
-        return false;
-    }
-    if wire::byte(text, at + 2) != third {
-        return false;
-    }
-    if wire::byte(text, at + 3) != fourth {
-        return false;
-    }
-    !bytes::is_word_byte(wire::byte(text, at + 4))
-}
-
-// `true` and `fail`
-fn keyword_at(text: &[u8], at: usize) -> Found
-    requires at_in_bounds { at < length text.now }
-    requires at_value { is_word_byte (get_or text.now at 0) ≡ true }
-    ensures { Reads (keyword (run (drop at text.now)) (drop at text.now)) result }
-{
-    let b = text[at];
-    if b == b't' {
-        if goes_on(text, at, b'r', b'u', b'e') {
-            return Found::Token(Token::Mark(Mark::TRUE), 4);
+    let (token, length) = match rest {
+        [b's', rest @ ..] => {
+            let (index, length) = index_of(rest, LAST_SYMBOL)?;
+            (Token::Symbol(index), length)
         }
-        return Found::Nothing;
-    }
-    if b == b'f' {
-        if goes_on(text, at, b'a', b'i', b'l') {
-            return Found::Token(Token::Mark(Mark::FAIL), 4);
+        [b'V', rest @ ..] => {
+            let (index, length) = index_of(rest, LAST_VARIABLE)?;
+            (Token::Variable(index), length)
         }
-        return Found::Nothing;
-    }
-    Found::Nothing
-}
-
-pub fn word_at(text: &[u8], at: usize) -> Found
-    requires at_in_bounds { at < length text.now }
-    requires at_value { is_word_byte (get_or text.now at 0) ≡ true }
-    ensures { Reads (word (run (drop at text.now)) (drop at text.now)) result }
-{
-    let b = text[at];
-    if b == b's' {
-        return named_at(text, at, b);
-    }
-    if b == b'V' {
-        return named_at(text, at, b);
-    }
-    if bytes::is_digit(b) {
-        return numerals::constant_at(text, at);
-    }
-    keyword_at(text, at)
+        [b'0'..=b'9', ..] => return numerals::constant(rest),
+        _ => {
+            let length = run(rest);
+            (Token::Mark(keyword(&rest[..length])?), length)
+        }
+    };
+    Some(Spelled { token, length })
 }

@@ -1,55 +1,34 @@
-// Comparisons and guards under a binding of the variables, which is lent as its two arrays.
+// Comparisons and guards under a binding of the variables: `None` where one is undefined.
 ghost use Rattle.std.specs.Prelude.{◌≡◌, ◌+◌, ◌*◌, ◌≤◌, length};
 ghost use Rattle.model.specs.Guards.{comparison_value, guard_value};
 ghost use Rattle.model.specs.Table.{guard_at, guards_from};
-ghost use Rattle.values.specs.Views.{binding_of};
 
-use model::Rule;
-use numbers::Truth;
+use crate::expressions;
+use model::Binding;
 use records::geometry::GuardBytes;
 
 // The comparison whose record stands at p.
-pub fn comparison_value(
-    table: &[u8],
-    p: usize,
-    values: &[i32; Rule::VARIABLES],
-    bound: &[bool; Rule::VARIABLES],
-) -> Truth
+#[tactic(auto, unfolding(model::specs::Guards::comparison_value, model::specs::Table::guard_at))]
+pub fn comparison_value(table: &[u8], p: usize, binding: &Binding) -> Option<bool>
     requires { p + 24 ≤ length table.now }
-    ensures { result ≡ comparison_value (binding_of values.now bound.now) (guard_at table.now p) }
+    ensures { result ≡ comparison_value binding.now (guard_at table.now p) }
 {
-    let left = crate::expressions::value_at(table, p + GuardBytes::LEFT, values, bound);
-    let right = crate::expressions::value_at(table, p + GuardBytes::RIGHT, values, bound);
-    numbers::compare(table[p + GuardBytes::COMPARATOR], left, right)
+    numbers::compare(
+        table[p + GuardBytes::COMPARATOR],
+        expressions::value_at(table, p + GuardBytes::LEFT, binding),
+        expressions::value_at(table, p + GuardBytes::RIGHT, binding),
+    )
 }
 
 // The n comparisons from p on, read up to the first that is not true.
-pub fn guard_value(
-    table: &[u8],
-    p: usize,
-    n: u8,
-    values: &[i32; Rule::VARIABLES],
-    bound: &[bool; Rule::VARIABLES],
-) -> Truth
+pub fn guard_value(table: &[u8], p: usize, n: u8, binding: &Binding) -> Option<bool>
     requires { p + 24 * n ≤ length table.now }
-    ensures { result ≡ guard_value (binding_of values.now bound.now) (guards_from table.now p n) }
+    ensures { result ≡ guard_value binding.now (guards_from table.now p n) }
 {
-    let mut at = p;
-    let mut left = n;
-    while 0 < left {
-        let here = at;
-        at += GuardBytes::LEN;
-        left -= 1;
-        let truth = comparison_value(table, here, values, bound);
-        match truth {
-            Truth::True => {}
-            Truth::False => {
-                return Truth::False;
-            }
-            Truth::Undefined => {
-                return Truth::Undefined;
-            }
+    for i in 0..n as usize {
+        if !comparison_value(table, p + GuardBytes::LEN * i, binding)? {
+            return Some(false);
         }
     }
-    Truth::True
+    Some(true)
 }

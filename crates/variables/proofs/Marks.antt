@@ -5,19 +5,22 @@ use mathlib.Core.Path.{◌≡◌, refl, sym, ap, ◌∙◌, subst}
 use mathlib.Core.List.{List}
 use mathlib.Core.Bool.{Bool, true, false, cond, not, ◌||◌, ◌&&◌, true≢false, or_assoc, or_comm, or-false, and-true, and-false}
 use native.Mathlib.Omega.{arith}
+use native.Mathlib.Numerals.{add-one}
 use native.Mathlib.Nat.{mod-eq_of_lt}
 use lib.ListN.{length, get_or, set, replicate, length-set, get_or-replicate}
 use lib.Seq.{get_or-set_same, get_or-set_other}
 use lib.Dec.{ltb, eqb}
-use lib.IntN.{ℤ}
 use borrow.Author.Tests.{ltb-true, lt-ltb, le-ltb, eqb-true, eqb-false}
 use Rattle.wire.specs.Wire.{u32_at, signed_of}
 use Rattle.model.specs.Slots.{slot_by, slot_at}
-use Rattle.model.specs.Variables.{is_variable, head_has, in_heads, strange_slot}
+use Rattle.model.specs.Variables.{is_variable, head_has, in_heads, strange_slot, strange}
+use Rattle.model.specs.declared.Kind.{Kind}
+use Rattle.model.specs.declared.Kind.TheVariants.{NextSymbol, NextRule, KeptHead, RemovedHead, Comparison, BodyFact, BodyFail, EndOfTable}
+use Rattle.model.specs.declared.Scan.{Scan}
 use Rattle.model.specs.declared.RuleShape.{RuleShape}
 use Rattle.model.specs.declared.Slot.{Slot}
 use Rattle.model.specs.declared.Slot.TheVariants.{Unused, Constant, Variable, Bad}
-use Rattle.variables.specs.Named.{Named, Follows, headless, head, same, marked, marked_head}
+use Rattle.variables.specs.Named.{Named, Follows, headless, head, same, marked, marked_first, marked_head}
 
 -- ---- what holds of a slot, by the tests of its tag and its value
 
@@ -94,27 +97,34 @@ module _ (t : List ℕ) (p : ℕ) (l : List Bool) where
 
 module _ (t : List ℕ) (p : ℕ) where
   module _ {s : Slot} (e : s ≡ slot_at t p) (l : List Bool) where
-    pub unused-marked : s ≡ Unused → l ≡ marked (slot_at t p) l
-    unfolding marked
-    unused-marked d = rw (← e, d)
-
-    pub constant-marked : {z : ℤ} → s ≡ Constant z → l ≡ marked (slot_at t p) l
-    unfolding marked
-    constant-marked d = rw (← e, d)
-
     pub variable-marked : {v : ℕ} → s ≡ Variable v → set l v true ≡ marked (slot_at t p) l
     unfolding marked
     variable-marked d = rw (← e, d)
 
-    pub bad-marked : s ≡ Bad → l ≡ marked (slot_at t p) l
+    -- any other slot
+    pub other-marked : ((v : ℕ) → s ≡ Variable v → ⊥) → l ≡ marked (slot_at t p) l
     unfolding marked
-    bad-marked d = rw (← e, d)
+    other-marked d = rw (← e) (go s d)
+      where
+        go : (x : Slot) → ((v : ℕ) → x ≡ Variable v → ⊥) → l ≡ marked x l
+        go Unused d = refl
+        go (Constant z) d = refl
+        go (Variable v) d = absurd (d v refl)
+        go Bad d = refl
 
-  pub head-marked : (l : List Bool) {a b c d : List Bool} → a ≡ marked (slot_at t (p + 2)) l → b ≡ marked (slot_at t (p + 7)) a
-      → c ≡ marked (slot_at t (p + 12)) b
-      → d ≡ marked (slot_at t (p + 17)) c → d ≡ marked_head t p l
-  unfolding marked_head
-  head-marked l e f g h = rw (← e, ← f, ← g) h
+  pub first-marked : (k : ℕ) (l : List Bool) {a b : List Bool} → a ≡ marked_first t p k l → b ≡ marked (slot_at t (p + 2 + 5 * k)) a
+      → b ≡ marked_first t p (k + 1) l
+  unfolding marked_first
+  first-marked k l e f = rw (add-one k, ← e) f
+
+  pub head-marked : (l : List Bool) {d : List Bool} → d ≡ marked_first t p 4 l → d ≡ marked_head t p l
+  unfolding marked_head marked_first
+  head-marked l e =
+      let a : p + 2 + 5 * 0 ≡ p + 2 = omega arith in
+      let b : p + 2 + 5 * 1 ≡ p + 7 = omega arith in
+      let c : p + 2 + 5 * 2 ≡ p + 12 = omega arith in
+      let f : p + 2 + 5 * 3 ≡ p + 17 = omega arith in
+      e ∙ rw (a, b, c, f)
 
 -- ---- a head more
 
@@ -204,3 +214,16 @@ module _ {t : List ℕ} {rule : RuleShape} {named : List Bool} (w : Named t rule
     pub by-tag : get_or named (value % 16) false ≡ false → value < 16 → eqb (get_or t p 0) 2 ≡ strange_slot t rule.start rule.heads (slot_at t p)
     unfolding slot_at
     by-tag m h = rw (← e) (sym (and-true (eqb (get_or t p 0) 2)) ∙ by-mark (get_or t p 0) value false _ true m refl (lt-ltb value 16 h))
+
+-- ---- a record that names no variable
+
+pub other-kind : (t : List ℕ) (s : Scan) (k : Kind) → (k ≡ Comparison → ⊥) → (k ≡ BodyFact → ⊥) → false ≡ strange t s k
+unfolding strange
+other-kind t s NextSymbol d e = refl
+other-kind t s NextRule d e = refl
+other-kind t s KeptHead d e = refl
+other-kind t s RemovedHead d e = refl
+other-kind t s Comparison d e = absurd (d refl)
+other-kind t s BodyFact d e = absurd (e refl)
+other-kind t s BodyFail d e = refl
+other-kind t s EndOfTable d e = refl

@@ -1,5 +1,5 @@
 -- The marks of the variables that stand in the heads of the rule that is being read.
-use Rattle.std.specs.Prelude.{ℕ, ◌+◌, ◌*◌, ◌<◌, ◌≤◌, ◌≡◌, List, Bool, true, false, length, get_or, set}
+use Rattle.std.specs.Prelude.{ℕ, zero, suc, ◌+◌, ◌*◌, ◌<◌, ◌≤◌, ◌≡◌, List, Bool, true, false, length, get_or, set}
 use Rattle.model.specs.Slots.{slot_at}
 use Rattle.model.specs.Variables.{in_heads}
 use Rattle.model.specs.declared.RuleShape.{RuleShape}
@@ -24,6 +24,11 @@ marked Unused named = named
 marked (Constant z) named = named
 marked (Variable v) named = set named v true
 marked Bad named = named
+
+-- the marks with the variables of the first k slots of the head at p
+unfoldable pub marked_first : List ℕ → ℕ → ℕ → List Bool → List Bool
+marked_first t p zero named = named
+marked_first t p (suc k) named = marked (slot_at t (p + 2 + 5 * k)) (marked_first t p k named)
 
 unfoldable pub marked_head : List ℕ → ℕ → List Bool → List Bool
 marked_head t p named = marked (slot_at t (p + 17)) (marked (slot_at t (p + 12)) (marked (slot_at t (p + 7)) (marked (slot_at t (p + 2)) named)))

@@ -27,14 +27,8 @@ fn mark_slot(table: &[u8], p: usize, named: &mut [bool; Rule::VARIABLES])
     requires { p + 5 ≤ length table.now }
     ensures { named.new ≡ marked (slot_at table.now p) named.old }
 {
-    let slot = slots::slot_at(table, p);
-    match slot {
-        Slot::Unused => {}
-        Slot::Constant(_) => {}
-        Slot::Variable(v) => {
-            named[v as usize] = true;
-        }
-        Slot::Bad => {}
+    if let Slot::Variable(v) = slots::slot_at(table, p) {
+        named[v as usize] = true;
     }
 }
 
@@ -43,10 +37,9 @@ fn mark_head(table: &[u8], p: usize, named: &mut [bool; Rule::VARIABLES])
     requires { p + size_of KeptHead ≤ length table.now }
     ensures { named.new ≡ marked_head table.now p named.old }
 {
-    mark_slot(table, p + HeadBytes::SLOT_0, named);
-    mark_slot(table, p + HeadBytes::SLOT_1, named);
-    mark_slot(table, p + HeadBytes::SLOT_2, named);
-    mark_slot(table, p + HeadBytes::SLOT_3, named);
+    for k in 0..4 {
+        mark_slot(table, p + HeadBytes::SLOT_0 + SlotBytes::LEN * k, named);
+    }
 }
 
 // The marks behind a good record at `at`: a head more adds its variables, and a rule with fewer heads is a new one.
@@ -82,10 +75,7 @@ fn strange_at(table: &[u8], rule: RuleShape, named: &[bool; Rule::VARIABLES], p:
     if named[at] {
         return false;
     }
-    if Rule::VARIABLES <= value {
-        return false;
-    }
-    table[p] == 2
+    value < Rule::VARIABLES && table[p] == 2
 }
 
 fn strange_expression(
@@ -97,52 +87,40 @@ fn strange_expression(
     requires { Named table.now rule named.now × (p + 11 ≤ length table.now) }
     ensures { result ≡ strange_expression table.now rule.start rule.heads p }
 {
-    if strange_at(table, rule, named, p + ExpressionBytes::LEFT) {
-        return true;
-    }
-    strange_at(table, rule, named, p + ExpressionBytes::RIGHT)
+    strange_at(table, rule, named, p + ExpressionBytes::LEFT)
+        || strange_at(table, rule, named, p + ExpressionBytes::RIGHT)
 }
 
 fn strange_guard(table: &[u8], rule: RuleShape, named: &[bool; Rule::VARIABLES], at: usize) -> bool
     requires { Named table.now rule named.now × (at + size_of Comparison ≤ length table.now) }
     ensures { result ≡ strange_guard table.now rule.start rule.heads at }
 {
-    if strange_expression(table, rule, named, at + GuardBytes::LEFT) {
-        return true;
-    }
-    strange_expression(table, rule, named, at + GuardBytes::RIGHT)
+    strange_expression(table, rule, named, at + GuardBytes::LEFT)
+        || strange_expression(table, rule, named, at + GuardBytes::RIGHT)
 }
 
 fn strange_fact(table: &[u8], rule: RuleShape, named: &[bool; Rule::VARIABLES], at: usize) -> bool
     requires { Named table.now rule named.now × (at + size_of BodyFact ≤ length table.now) }
     ensures { result ≡ strange_fact table.now rule.start rule.heads at }
 {
-    if strange_expression(table, rule, named, at + FactBytes::ARGUMENT_0) {
-        return true;
-    }
-    if strange_expression(table, rule, named, at + FactBytes::ARGUMENT_1) {
-        return true;
-    }
-    if strange_expression(table, rule, named, at + FactBytes::ARGUMENT_2) {
-        return true;
-    }
-    strange_expression(table, rule, named, at + FactBytes::ARGUMENT_3)
+    (0..4).any(|k: usize| {
+        strange_expression(
+            table,
+            rule,
+            named,
+            at + FactBytes::ARGUMENT_0 + ExpressionBytes::LEN * k,
+        )
+    })
 }
 
-pub fn strange(table: &[u8], s: Scan, k: Kind, named: &[bool; Rule::VARIABLES]) -> bool
-    requires { Named table.now s.shape named.now × (s.at + size_of k ≤ length table.now) }
-    ensures { result ≡ strange table.now s k }
+// Whether the record of kind k where the scan stands has a variable that no head has.
+pub fn strange(table: &[u8], s: &Scan, k: Kind, named: &[bool; Rule::VARIABLES]) -> bool
+    requires { Named table.now s.now.shape named.now × (s.now.at + size_of k ≤ length table.now) }
+    ensures { result ≡ strange table.now s.now k }
 {
-    let rule = s.shape;
     match k {
-        Kind::NextSymbol => false,
-        Kind::NextRule => false,
-        Kind::KeptHead => false,
-        Kind::RemovedHead => false,
-        Kind::Comparison => strange_guard(table, rule, named, s.at),
-        Kind::BodyFact => strange_fact(table, rule, named, s.at),
-        Kind::BodyFail => false,
-        Kind::EndOfTable => false,
-        Kind::Unknown => false,
+        Kind::Comparison => strange_guard(table, s.shape, named, s.at),
+        Kind::BodyFact => strange_fact(table, s.shape, named, s.at),
+        _ => false,
     }
 }

@@ -1,20 +1,16 @@
 -- The tests of a weighing, one after the other: what each finds decides the definition's case. On 0 the parts make the definition's W and bound.
 use Prim.Native.Nat.{ℕ, ◌/◌, ◌≤◌}
 use mathlib.Core.Path.{◌≡◌, sym, ap, ◌∙◌}
-use mathlib.Core.Bool.{true}
-use mathlib.Core.Option.{Option, none, some}
 use mathlib.Core.List.{List}
-use native.Mathlib.Omega.{arith}
 use lib.Dec.{eqb}
 use lib.ListN.{length}
-use mir.Syntax.{w32}
-use mir.Val.{Fits}
+use Rattle.std.specs.Prelude.{Some, None, Ok, Err}
 use Rattle.model.specs.declared.Symbol.{Symbol}
 use Rattle.model.specs.declared.RuleNumber.{RuleNumber}
 use Rattle.model.specs.declared.Reading.{Reading}
-use Rattle.model.specs.declared.Verdict.{Verdict}
-use Rattle.model.specs.declared.Verdict.TheVariants.{Good, Refused}
-use Rattle.model.specs.declared.Weighing.{Weighing}
+use Rattle.model.specs.declared.Refusal.{Refusal}
+use Rattle.model.specs.declared.Reason.TheVariants.{WeightCount, ZeroWeight, HeavyRule}
+use Rattle.model.specs.declared.CallResult.{CallResult}
 use Rattle.model.specs.Limits.{most_goal_facts}
 use Rattle.model.specs.Reading.{read_of}
 use Rattle.model.specs.Table.{table_of}
@@ -23,90 +19,71 @@ use Rattle.model.specs.Weights.{weight_in, goal_weight, most_facts, most_places,
 use Rattle.model.specs.Results.{refusal}
 use Rattle.model.specs.Calls.{refused_weighing, weighed, weigh_goal, weigh_rules, weigh_zero, weigh_count, weigh_table, weigh_of}
 use Rattle.model.proofs.Decoded.{table-symbols}
-use Rattle.model.proofs.Good.{good-goal, goal-places}
+use Rattle.model.proofs.Good.{good-goal}
 use Rattle.table.proofs.Verdicts.{verdict-read}
-use Rattle.rule_weights.specs.declared.FirstRule.{FirstRule}
-use Rattle.rule_weights.specs.declared.FirstRule.TheVariants as rule
-use Rattle.rule_weights.specs.Views.{Counted, Known, first_rule}
-use Rattle.rule_weights.proofs.Turns.{symbols-same, count-same, count-differs, heavy-at, heavy-none}
-use Rattle.weighing.specs.declared.FirstSymbol.{FirstSymbol}
-use Rattle.weighing.specs.declared.FirstSymbol.TheVariants as symbol
-use Rattle.weighing.specs.Views.{first_symbol}
+use Rattle.rule_weights.specs.Views.{Counted, Known}
+use Rattle.rule_weights.proofs.Turns.{symbols-same, count-same, count-differs}
 
--- what a search for the first found
-pub zero-at : {r : FirstSymbol} (o : Option ℕ) {s : Symbol} → first_symbol r ≡ o → r ≡ symbol.At s → o ≡ some s.0
-unfolding first_symbol
-zero-at o e d = sym e ∙ ap first_symbol d
-
-pub zero-none : {r : FirstSymbol} (o : Option ℕ) → first_symbol r ≡ o → r ≡ symbol.Nothing → o ≡ none
-unfolding first_symbol
-zero-none o e d = sym e ∙ ap first_symbol d
-
--- each test's answer, as the definition's case
-module _ (t weights g : List ℕ) {x : Weighing} where
-  pub refused-rule : {r : FirstRule} {n : RuleNumber} → first_rule r ≡ first_heavy (weight_in weights) 0 (table_of t).rules → r ≡ rule.At n
-      → x ≡ refused_weighing 42 n.0 → x ≡ weigh_zero t weights g none
-  refused-rule e d q = q ∙ ap (weigh_rules t weights g) (sym (heavy-at _ e d))
-
-  pub passed-rules : {r : FirstRule} → first_rule r ≡ first_heavy (weight_in weights) 0 (table_of t).rules → r ≡ rule.Nothing
-      → x ≡ weigh_rules t weights g none → x ≡ weigh_zero t weights g none
-  passed-rules e d q = q ∙ ap (weigh_rules t weights g) (sym (heavy-none _ e d))
-
-  pub refused-symbol : {r : FirstSymbol} {s : Symbol} → first_symbol r ≡ first_zero 0 weights → r ≡ symbol.At s
-      → x ≡ refused_weighing 41 s.0 → x ≡ weigh_count t weights g true
-  refused-symbol e d q = q ∙ ap (weigh_zero t weights g) (sym (zero-at _ e d))
-
-  pub passed-symbols : {r : FirstSymbol} → first_symbol r ≡ first_zero 0 weights → r ≡ symbol.Nothing
-      → x ≡ weigh_zero t weights g none → x ≡ weigh_count t weights g true
-  passed-symbols e d q = q ∙ ap (weigh_zero t weights g) (sym (zero-none _ e d))
-
-module _ {t : List ℕ} {r : Reading} (k : Known t r) where
-  -- 40, and what is tested behind it
-  module _ (weights g : List ℕ) {x : Weighing} where
-    pub other-count : (length weights ≡ r.symbols → ⊥) → x ≡ refused_weighing 40 0
-        → x ≡ weigh_count t weights g (eqb (length weights) (read_of t).symbols)
-    other-count d q = q ∙ ap (weigh_count t weights g) (sym (count-differs k weights d))
-
-    pub same-count : length weights ≡ r.symbols → x ≡ weigh_count t weights g true
-        → x ≡ weigh_count t weights g (eqb (length weights) (read_of t).symbols)
-    same-count e q = q ∙ ap (weigh_count t weights g) (sym (count-same k weights e))
-
-  -- the goal's verdict
-  pub goal-read : (g : List ℕ) {v w : Verdict} → v ≡ goal_verdict t r.symbols g → v ≡ w → goal_verdict t (read_of t).symbols g ≡ w
-  goal-read g e d = ap (λ (n : ℕ). goal_verdict t n g) (sym (symbols-same k)) ∙ sym e ∙ d
-
-  module _ (weights g : List ℕ) {x : Weighing} {v : Verdict} (e : v ≡ goal_verdict t r.symbols g) where
-    pub goal-good : v ≡ Good → x ≡ weighed t weights g → x ≡ weigh_rules t weights g none
-    goal-good d q = q ∙ ap (weigh_goal t weights g) (sym (goal-read g e d))
-
-    pub goal-refused : {n p : ℕ} → v ≡ Refused n p → x ≡ refused_weighing n p → x ≡ weigh_rules t weights g none
-    goal-refused d q = q ∙ ap (weigh_goal t weights g) (sym (goal-read g e d))
-
-  pub goal-place : (g : List ℕ) {v : Verdict} {n p : ℕ} → v ≡ goal_verdict t r.symbols g → v ≡ Refused n p → Fits w32 p
-  goal-place g {n = n} {p} e d = record { fits = omega (arith, (goal-places t _ g n p (goal-read g e d)).near) }
-
--- the table's verdict
-module _ (t weights g : List ℕ) {r : Reading} (e : r ≡ read_of t) {x : Weighing} where
-  pub table-good : r.verdict ≡ Good → x ≡ weigh_count t weights g (eqb (length weights) (read_of t).symbols) → x ≡ weigh_of t weights g
+-- what each test finds, as the definition's case
+module _ (t weights g : List ℕ) {r : Reading} (e : r ≡ read_of t) where
+  pub table-refused : {a : Refusal} → r.verdict ≡ Err a → refused_weighing a ≡ weigh_of t weights g
   unfolding weigh_of
-  table-good d q = q ∙ ap (weigh_table t weights g) (sym (verdict-read t e d))
+  table-refused d = ap (weigh_table t weights g) (sym (verdict-read t e d))
 
-  pub table-refused : {n p : ℕ} → r.verdict ≡ Refused n p → x ≡ refused_weighing n p → x ≡ weigh_of t weights g
-  unfolding weigh_of
-  table-refused d q = q ∙ ap (weigh_table t weights g) (sym (verdict-read t e d))
+  -- the table is good
+  module _ (good : r.verdict ≡ Ok tt) where
+    known : Known t r
+    known = record { same = e; good = good }
 
-pub few-facts : (t : List ℕ) (symbols : ℕ) (g : List ℕ) → goal_verdict t symbols g ≡ Good → length g / 18 ≤ most_goal_facts
+    counted : weigh_count t weights g (eqb (length weights) (read_of t).symbols) ≡ weigh_of t weights g
+    unfolding weigh_of
+    counted = ap (weigh_table t weights g) (sym (verdict-read t e good))
+
+    pub other-count : {n : ℕ} → n ≡ r.symbols → (length weights ≡ n → ⊥) → refused_weighing (record { reason = WeightCount; place = 0 }) ≡ weigh_of t weights g
+    other-count q d = ap (weigh_count t weights g) (sym (count-differs known weights (λ z. d (z ∙ sym q)))) ∙ counted
+
+    -- there are as many weights as symbols
+    module _ {n : ℕ} (q : n ≡ r.symbols) (same : length weights ≡ n) where
+      zeros : weigh_zero t weights g (first_zero 0 weights) ≡ weigh_of t weights g
+      zeros = ap (weigh_count t weights g) (sym (count-same known weights (same ∙ q))) ∙ counted
+
+      pub zero-weight : {s : Symbol} {p : ℕ} → Some s ≡ first_zero 0 weights → p ≡ s.0
+          → refused_weighing (record { reason = ZeroWeight; place = p }) ≡ weigh_of t weights g
+      zero-weight d z = ap (λ (p : ℕ). refused_weighing (record { reason = ZeroWeight; place = p })) z ∙ ap (weigh_zero t weights g) d ∙ zeros
+
+      -- no weight is zero
+      module _ (some : None ≡ first_zero 0 weights) where
+        heavies : weigh_rules t weights g (first_heavy (weight_in weights) 0 (table_of t).rules) ≡ weigh_of t weights g
+        heavies = ap (weigh_zero t weights g) some ∙ zeros
+
+        pub heavy-rule : {n : RuleNumber} {p : ℕ} → Some n ≡ first_heavy (weight_in weights) 0 (table_of t).rules → p ≡ n.0
+            → refused_weighing (record { reason = HeavyRule; place = p }) ≡ weigh_of t weights g
+        heavy-rule d z = ap (λ (p : ℕ). refused_weighing (record { reason = HeavyRule; place = p })) z ∙ ap (weigh_rules t weights g) d ∙ heavies
+
+        -- every rule loses weight
+        module _ (light : None ≡ first_heavy (weight_in weights) 0 (table_of t).rules) where
+          goals : weigh_goal t weights g (goal_verdict t r.symbols g) ≡ weigh_of t weights g
+          goals =
+              ap (λ (n : ℕ). weigh_goal t weights g (goal_verdict t n g)) (symbols-same known) ∙ ap (weigh_rules t weights g) light ∙ heavies
+
+          pub goal-refused : {a : Refusal} → Err a ≡ goal_verdict t r.symbols g → refused_weighing a ≡ weigh_of t weights g
+          goal-refused d = ap (weigh_goal t weights g) d ∙ goals
+
+          pub all-good : Ok tt ≡ goal_verdict t r.symbols g → weighed t weights g ≡ weigh_of t weights g
+          all-good d = ap (weigh_goal t weights g) d ∙ goals
+
+pub few-facts : (t : List ℕ) (symbols : ℕ) (g : List ℕ) → goal_verdict t symbols g ≡ Ok tt → length g / 18 ≤ most_goal_facts
 few-facts t symbols g e = (good-goal t symbols g e).few
 
-pub weighed-is : (t weights g : List ℕ) {x : Weighing} {facts weight body places bound : ℕ}
-    → x ≡ record { result = refusal 0 0; weight = weight; bound = bound }
+pub weighed-is : (t weights g : List ℕ) {x : CallResult} {facts weight body places bound : ℕ}
+    → x ≡ refusal 0 0
     → bound ≡ step_bound facts body weight places
     → Counted (length (goal_of g)) 64 facts
     → Counted (goal_weight (weight_in weights) (goal_of g)) 16320 weight
     → Counted (most_facts (table_of t).rules) 4 body
     → Counted (most_places (table_of t) (read_of t).symbols) 256 places
-    → x ≡ weighed t weights g
+    → record { result = x; weight = weight; bound = bound } ≡ weighed t weights g
 unfolding weighed
 weighed-is t weights g {places = places} e d f w b m =
     let p : places ≡ most_places (table_of t) (table_of t).symbols = m.same ∙ ap (most_places (table_of t)) (sym (table-symbols t)) in
-    rw (← f.same, ← w.same, ← b.same, ← p, ← d) e
+    rw (e, d, f.same, w.same, b.same, p)

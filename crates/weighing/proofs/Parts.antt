@@ -1,67 +1,59 @@
 -- The weights and the facts of a goal, one after the other: what a turn of each loop finds or adds.
-use Prim.Native.Nat.{ℕ, zero, suc, ◌+◌, ◌-◌, ◌/◌, ◌<◌, ◌≤◌}
+use Prim.Native.Nat.{ℕ, zero, suc, ◌+◌, ◌*◌, ◌/◌, ◌<◌, ◌≤◌}
 use mathlib.Core.Path.{◌≡◌, refl, sym, ap, ◌∙◌}
-use mathlib.Core.Option.{none, some}
 use mathlib.Core.List.{List, ◌∷◌}
 use native.Mathlib.Omega.{arith}
-use native.Mathlib.Numerals.{add-one}
 use lib.ListN.{length, get_or, drop, drop_of_length-le}
 use lib.Seq.{drop-cons}
+use Rattle.std.specs.Prelude.{Option, Some, None, MatchOption}
+use Rattle.std.specs.List.{AllWithin, HoldsAt}
+use Rattle.model.specs.declared.Symbol.{Symbol}
 use Rattle.model.specs.Goal.{fact_at, facts_from, goal_of}
-use Rattle.model.specs.Weights.{weight_in, goal_weight, first_zero}
-use Rattle.model.proofs.Decoded.{facts-first}
-use Rattle.rule_weights.specs.Views.{Counted}
-use Rattle.rule_weights.proofs.Parts.{Left}
+use Rattle.model.specs.Table.{symbol_at}
+use Rattle.model.specs.Weights.{goal_weight, first_zero}
+use Rattle.rule_weights.specs.Views.{Counted, rows_weight}
 
 -- ---- the first zero weight
 
--- the weights from i on answer for all
-pub record ZeroLeft (l : List ℕ) (i : ℕ) : Type 0 where
-  pub same : first_zero 0 l ≡ first_zero i (drop i l)
-  pub few : i ≤ length l
+zero-later : (i : ℕ) (l : List ℕ) (x : ℕ) → (x ≡ 0 → ⊥) → first_zero i (x ∷ l) ≡ first_zero (suc i) l
+unfolding first_zero
+zero-later i l zero d = absurd (d refl)
+zero-later i l (suc x) d = refl
 
-pub zero-begins : (l : List ℕ) → ZeroLeft l 0
-zero-begins l = record { same = refl; few = omega arith }
+module _ (l : List ℕ) where
+  -- the weights from i on answer for all, where none before is zero
+  zero-from : (i : ℕ) → i ≤ length l → ((j : ℕ) → j < i → get_or l j 0 ≡ 0 → ⊥) → first_zero 0 l ≡ first_zero i (drop i l)
+  zero-from zero h e = refl
+  zero-from (suc i) h e =
+      zero-from i (omega arith) (λ j b. e j (omega arith))
+      ∙ ap (first_zero i) (drop-cons l i 0 (omega arith))
+      ∙ zero-later i (drop (suc i) l) (get_or l i 0) (e i (omega arith))
 
-module _ {l : List ℕ} {i : ℕ} (z : ZeroLeft l i) where
-  pub zero-here : i < length l → get_or l i 0 ≡ 0 → some i ≡ first_zero 0 l
+  pub zero-at : (i : ℕ) → i < length l → get_or l i 0 ≡ 0 → ((j : ℕ) → j < i → get_or l j 0 ≡ 0 → ⊥) → Some (record { 0 = i }) ≡ first_zero 0 l
   unfolding first_zero
-  zero-here h e = sym (z.same ∙ rw (drop-cons l i 0 h, e))
+  zero-at i h z e = sym (zero-from i (omega arith) e ∙ rw (drop-cons l i 0 h, z))
 
-  pub zero-later : i < length l → (get_or l i 0 ≡ 0 → ⊥) → ZeroLeft l (i + 1)
+  pub zero-never : ((j : ℕ) → j < length l → get_or l j 0 ≡ 0 → ⊥) → None ≡ first_zero 0 l
   unfolding first_zero
-  zero-later h d = record { same = z.same ∙ rw (drop-cons l i 0 h, add-one i) (go (get_or l i 0) d); few = omega arith }
-    where
-      go : (x : ℕ) → (x ≡ 0 → ⊥) → first_zero i (x ∷ drop (suc i) l) ≡ first_zero (suc i) (drop (suc i) l)
-      go zero d = absurd (d refl)
-      go (suc x) d = refl
+  zero-never e = sym (zero-from (length l) (omega arith) e ∙ rw (drop_of_length-le l {i = length l} (omega arith)))
 
-  pub zero-never : length l ≤ i → none ≡ first_zero 0 l
-  unfolding first_zero
-  zero-never h = sym (z.same ∙ rw (drop_of_length-le l {i = i} h))
+-- what a search for the first zero finds
+abbrev pub FirstZero : List ℕ → Option ℕ → Type 0
+FirstZero l o =
+    MatchOption o (AllWithin (λ x. x ≡ 0 → ⊥) l 0 (length l)) (λ i. (i < length l) × HoldsAt (λ x. x ≡ 0) l i × AllWithin (λ x. x ≡ 0 → ⊥) l 0 i)
+
+pub zero-found : (l : List ℕ) (o : Option ℕ) → FirstZero l o → MatchOption o (None ≡ first_zero 0 l) (λ i. Some (record { 0 = i }) ≡ first_zero 0 l)
+zero-found l None f = zero-never l (λ j h. f j 0 (omega arith) h)
+zero-found l (Some i) f = zero-at l i f.0 (f.1 0) (λ j h. f.2 j 0 (omega arith) h)
 
 -- ---- a goal's facts
 
-module _ (weights g : List ℕ) where
-  abbrev goal_left : ℕ → ℕ → ℕ
-  goal_left p n = goal_weight (weight_in weights) (facts_from g p n)
+goal-rows : (w : Symbol → ℕ) (g : List ℕ) (p n : ℕ) → goal_weight w (facts_from g p n) ≡ rows_weight w g p 18 n
+unfolding goal_weight facts_from fact_at rows_weight
+goal-rows w g p zero = refl
+goal-rows w g p (suc n) = ap (λ (m : ℕ). w (symbol_at g (p + 1)) + m) (goal-rows w g (p + 18) n)
 
-  goal-turn : (p n : ℕ) → 0 < n → goal_left p n ≡ get_or weights (get_or g (p + 1) 0) 1 + goal_left (p + 18) (n - 1)
-  unfolding goal_weight fact_at
-  goal-turn p n h = rw (facts-first g p n h)
-
-  pub goal-none : (p n : ℕ) → n ≤ 0 → goal_left p n ≡ 0
-  unfolding goal_weight facts_from
-  goal-none p zero h = refl
-  goal-none p (suc n) h = absurd (omega arith)
-
-  pub goal-weighed : {far whole sum p left b r : ℕ} → Left 255 18 16320 far whole (goal_left p left) sum p left → 0 < left → b ≡ get_or g (p + 1) 0
-      → Counted (get_or weights b 1) 255 r → Left 255 18 16320 far whole (goal_left (p + 18) (left - 1)) (sum + r) (p + 18) (left - 1)
-  goal-weighed {p = p} {left} l h e c =
-      let x : _ ≡ get_or weights (get_or g (p + 1) 0) 1 = c.same ∙ ap (λ (b : ℕ). get_or weights b 1) e in
-      record { same = omega (arith, l.same, goal-turn p left h, x); few = omega (arith, l.few, c.few); near = omega (arith, l.near) }
-
-  -- all of a goal is left where it begins
-  pub goal-begins : length g / 18 ≤ 64 → Left 255 18 16320 1152 (goal_weight (weight_in weights) (goal_of g)) (goal_left 0 (length g / 18)) 0 0 (length g / 18)
-  unfolding goal_of
-  goal-begins h = record { same = omega arith; few = omega arith; near = omega arith }
+pub goal-counted : (w : Symbol → ℕ) (g : List ℕ) → length g / 18 ≤ 64 → {m : ℕ} → Counted (rows_weight w g 0 18 (length g / 18)) (length g / 18 * 255) m
+    → Counted (goal_weight w (goal_of g)) 16320 m
+unfolding goal_of
+goal-counted w g h c = record { same = c.same ∙ sym (goal-rows w g 0 (length g / 18)); few = omega (arith, c.few, h) }

@@ -1,9 +1,9 @@
--- What a search for the first symbol of its sort found, as the definition says it.
-use Rattle.std.specs.Prelude.{ℕ}
-use Rattle.std.proofs.Math.Option.{Option, none, some}
-use Rattle.weighing.specs.declared.FirstSymbol.{FirstSymbol}
-use Rattle.weighing.specs.declared.FirstSymbol.TheVariants.{At, Nothing}
+-- What the tests of a weighing come to.
+use Rattle.std.specs.Prelude.{Result, Ok, Err}
+use Rattle.model.specs.declared.Refusal.{Refusal}
+use Rattle.model.specs.declared.Weighing.{Weighing}
+use Rattle.model.specs.Calls.{refused_weighing}
 
-unfoldable pub first_symbol : FirstSymbol → Option ℕ
-first_symbol (At s) = some s.0
-first_symbol Nothing = none
+abbrev pub weighing_of : Result Weighing Refusal → Weighing
+weighing_of (Ok w) = w
+weighing_of (Err r) = refused_weighing r

@@ -1,9 +1,11 @@
 -- Laws of words in bytes, for the crates that cite them: a word that was written is read, what lies outside is kept, bits and
 -- signed numbers go there and back, and how large each can be. Assumes nothing.
-use Rattle.std.specs.Prelude.{◌≡◌, refl, ◌≢◌, ◌⊎◌, Bool, true, false, List, [], ◌∷◌, ◌++◌, ℕ, zero, suc, ◌+◌, ◌-◌, ◌/◌, ◌%◌, ◌≤◌, ◌<◌, ltb, ℤ, pos, negsuc}
+use Rattle.std.specs.Prelude.{◌≡◌, refl, ◌≢◌, ◌⊎◌, List, [], ◌∷◌, ◌++◌, ℕ, zero, suc, ◌+◌, ◌-◌, ◌/◌, ◌%◌, ◌≤◌, ◌<◌, ℤ, pos, negsuc}
 use Rattle.std.specs.Prelude.{length, get_or, set, take, drop}
-use Rattle.std.proofs.Common.{sym, ap, ◌∙◌, inl, inr, ⊎_elim, append_assoc, add_assoc, mod-eq_of_lt, add-one, arith, length-set, get_or-set_same}
-use Rattle.std.proofs.Common.{get_or-set_other, lt-length-set, get_or-drop, get_or-append-add, Fits, SFits, lt-ltb, le-ltb, ltb-true, ltb-false}
+use Rattle.std.proofs.Common.{sym, ap, subst, to_z, of_z, to_z-of_z, ◌∙◌, inl}
+use Rattle.std.proofs.Common.{inr, ⊎_elim, append_assoc, add_assoc, mod-eq_of_lt, add-one, arith, length-set, get_or-set_same}
+use Rattle.std.proofs.Common.{get_or-set_other, lt-length-set, get_or-drop, get_or-append-add, Fits, SFits, lt-ltb, le-ltb}
+use Rattle.std.proofs.Math.Facts.{of_z-to_z, sfits_to_z, Fits-of_z}
 use Rattle.std.proofs.Math.Nat.{div-div-eq-div-mul}
 use Rattle.std.proofs.Math.Numerals.{add-two, add-three}
 use Rattle.std.proofs.Math.ListN.{get_or-eq_default}
@@ -28,42 +30,26 @@ unfolding bits_of
 bits-below (pos n) f = omega (arith, f.sfits)
 bits-below (negsuc n) f = omega arith
 
--- by the half that a number is in
-half-test : (t : Bool) (n : ℕ) → ltb n 2147483648 ≡ t → (n < 2147483648) ⊎ (2147483648 ≤ n)
-half-test true n e = inl (ltb-true n 2147483648 e)
-half-test false n e = inr (ltb-false n 2147483648 e)
+-- the library's conversions say the same
+signed-are : (n : ℕ) → n < 4294967296 → to_z w32 n ≡ signed_of n
+unfolding signed_of
+signed-are n q = simp (lt-ltb n 4294967296 q)
 
-half : (n : ℕ) → (n < 2147483648) ⊎ (2147483648 ≤ n)
-half n = half-test (ltb n 2147483648) n refl
-
-fits-low : (n : ℕ) → n < 2147483648 → SFits w32 (signed_of n)
-fits-low n p = rw (signed-low n p) (record { sfits = p })
-
-fits-high : (n : ℕ) → 2147483648 ≤ n → n < 4294967296 → SFits w32 (signed_of n)
-fits-high n p q = rw (signed-high n p q) (record { sfits = omega arith })
-
-back-low : (n : ℕ) → n < 2147483648 → bits_of (signed_of n) ≡ n
+pub bits-are : (v : ℤ) → of_z w32 v ≡ bits_of v
 unfolding bits_of
-back-low n p = rw (signed-low n p)
-
-back-high : (n : ℕ) → 2147483648 ≤ n → n < 4294967296 → bits_of (signed_of n) ≡ n
-unfolding bits_of
-back-high n p q = rw (signed-high n p q) (omega arith)
+bits-are (pos n) = refl
+bits-are (negsuc n) = refl
 
 -- what is read of 32 bits fits 32 bits
 pub signed-fits : (n : ℕ) → n < 4294967296 → SFits w32 (signed_of n)
-signed-fits n q = ⊎_elim (fits-low n) (λ (p : 2147483648 ≤ n). fits-high n p q) (half n)
+signed-fits n q = subst (SFits w32) (signed-are n q) (sfits_to_z (record { fits = q }))
 
 -- there and back
 pub signed-bits : (v : ℤ) → SFits w32 v → signed_of (bits_of v) ≡ v
-unfolding bits_of
-signed-bits (pos n) f = signed-low n f.sfits
-signed-bits (negsuc n) f =
-    let h : n < 2147483648 = f.sfits in
-    signed-high (4294967296 - suc n) (omega arith) (omega arith) ∙ ap negsuc (omega arith)
+signed-bits v f = sym (ap signed_of (bits-are v)) ∙ sym (signed-are (of_z w32 v) (Fits-of_z f).fits) ∙ to_z-of_z f
 
 pub bits-signed : (n : ℕ) → n < 4294967296 → bits_of (signed_of n) ≡ n
-bits-signed n q = ⊎_elim (back-low n) (λ (p : 2147483648 ≤ n). back-high n p q) (half n)
+bits-signed n q = sym (bits-are (signed_of n)) ∙ ap (of_z w32) (sym (signed-are n q)) ∙ of_z-to_z {w = w32} (record { fits = q })
 
 -- ---- words
 

@@ -1,3 +1,2 @@
 -- The laws that the proofs of `wire` share.
-pub mod Machine
 pub mod Laws

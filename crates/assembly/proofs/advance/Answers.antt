@@ -4,4 +4,4 @@ use Rattle.assembly.proofs.advance.Goals as goal
 
 pub returns : goal.returns
 unfolding moved
-returns c = c.go_on.ensures.goes _ c.word_of-w.ensures
+returns c = c.go_on.ensures

@@ -5,8 +5,8 @@ use Rattle.fields.proofs.body_fact_bad.Goals as goal
 
 pub returns-then-symbols-symbol : goal.returns-then-symbols-symbol
 unfolding body_fact_bad
-returns-then-symbols-symbol c = search told
+returns-then-symbols-symbol c = rw (← c.arity_at-arity.ensures) (search told)
 
-pub returns : goal.returns
+pub returns-else-symbols-symbol : goal.returns-else-symbols-symbol
 unfolding body_fact_bad
-returns c = rw (← c.arity_at.ensures) (search told)
+returns-else-symbols-symbol c = rw (← c.arity_at-arity.ensures) (search told)

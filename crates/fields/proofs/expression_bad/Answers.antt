@@ -11,6 +11,6 @@ pub returns-then-slot_bad : goal.returns-then-slot_bad
 unfolding expression_bad
 returns-then-slot_bad c = search told
 
-pub returns : goal.returns
+pub returns-else-slot_bad : goal.returns-else-slot_bad
 unfolding expression_bad
-returns c = search told
+returns-else-slot_bad c = search told

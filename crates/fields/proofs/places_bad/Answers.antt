@@ -1,20 +1,21 @@
--- `fields::places_bad` meets its contract: one return a place.
-use Rattle.records.proofs.Tests.{chain}
-use Rattle.model.specs.Fields.{places_bad}
+-- `fields::places_bad` meets its contract: the four parts, one after the other.
+use Prim.Native.Nat.{ℕ, ◌+◌, ◌*◌}
+use mathlib.Core.Bool.{Bool}
+use mathlib.Core.Path.{◌∙◌, refl}
+use native.Mathlib.Omega.{arith}
+use lib.Dec.{ltb}
+use Rattle.std.proofs.Common.{rules}
+use Rattle.std.proofs.lemmas.Iterator.{YieldsList-from_range}
+use Rattle.std.proofs.lemmas.Iterator.Search.{any_from_yields_List}
+use Rattle.model.specs.Fields.{place_bad, places_bad}
+use Rattle.model.specs.Slots.{slot_at}
+use Rattle.records.proofs.Tests.{any-four}
 use Rattle.fields.proofs.places_bad.Goals as goal
-
-pub returns-then-slot_bad : goal.returns-then-slot_bad
-unfolding places_bad
-returns-then-slot_bad c = search chain
-
-pub returns-then-slot_bad-2 : goal.returns-then-slot_bad-2
-unfolding places_bad
-returns-then-slot_bad-2 c = search chain
-
-pub returns-then-slot_bad-3 : goal.returns-then-slot_bad-3
-unfolding places_bad
-returns-then-slot_bad-3 c = search chain
 
 pub returns : goal.returns
 unfolding places_bad
-returns c = search chain
+returns c =
+    let test : ℕ → ℕ → Bool = λ k q. place_bad (ltb k c.args.arity) (slot_at c.args.table.now q) in
+    let p = c.args.p in
+    any_from_yields_List (λ k. test k (p + 5 * k)) _ _ _ c.any.ensures.ran (YieldsList-from_range 0 4 4 (search rules) refl) (λ x b q k. search rules)
+    ∙ any-four test (λ k. p + 5 * k) p (p + 5) (p + 10) (p + 15) (omega arith) refl refl refl

@@ -1,14 +1,9 @@
 -- `find_weights` meets its contract.
-use borrow.Author.Rules.{rules}
-use Rattle.table.proofs.Verdicts.{place-fits}
-use Rattle.finding_weights.proofs.Finding.{table-good, table-refused}
+use Rattle.finding_weights.proofs.Finding.{told-found, told-refused}
 use Rattle.finding_weights.proofs.find_weights.Goals as goal
 
-pub overflow_cast-p : goal.overflow_cast-p
-overflow_cast-p c = search place-fits
+pub returns-in-Ok : goal.returns-in-Ok
+returns-in-Ok c = told-found c.try_find.ensures c.in-Ok.is c.refusal.ensures
 
-pub returns-in-Good : goal.returns-in-Good
-returns-in-Good c = search (table-good, rules)
-
-pub returns-in-Refused : goal.returns-in-Refused
-returns-in-Refused c = search (table-refused, rules)
+pub returns-in-Err : goal.returns-in-Err
+returns-in-Err c = told-refused c.try_find.ensures c.in-Err.is c.into.ensures

@@ -7,6 +7,6 @@ pub returns-then-arity-place : goal.returns-then-arity-place
 unfolding later_bad
 returns-then-arity-place c = rw (le-leb _ _ c.if-arity-place.true, ← c.u32_within.ensures)
 
-pub returns : goal.returns
+pub returns-else-arity-place : goal.returns-else-arity-place
 unfolding later_bad
-returns c = rw (lt-leb _ _ c.if-arity-place.false)
+returns-else-arity-place c = rw (lt-leb _ _ c.if-arity-place.false)

@@ -1,17 +1,7 @@
--- `history::recorded` meets its contract: what is left of the entries answers for the whole.
-use mathlib.Core.Path.{refl}
-use borrow.Author.Rules.{rules}
-use Rattle.history.proofs.Remembered.{past-start, past-hit, past-miss, past-none}
+-- `history::recorded` meets its contract: the derived equality is the definition's.
+use Rattle.std.proofs.Common.{refl, ◌∙◌}
+use Rattle.history.proofs.Among.{noted-any}
 use Rattle.history.proofs.recorded.Goals as goal
 
-pub loop-i-init : goal.loop-i-init
-loop-i-init c = search (past-start, refl)
-
-pub returns-then-same_entry : goal.returns-then-same_entry
-returns-then-same_entry c = search (past-hit, rules)
-
-pub loop-i-preserved : goal.loop-i-preserved
-loop-i-preserved c = search (past-miss, rules)
-
 pub returns : goal.returns
-returns c = search (past-none, rules)
+returns c = c.contains.ensures.value ∙ noted-any _ (λ d e. refl) c.args.fired c.args.past.now

@@ -1,29 +1,32 @@
 -- `search` meets its contract. The invariant: what is left of the search answers for the whole of it.
-use borrow.Author.Rules.{rules}
-use Rattle.raises.proofs.Turns.{shape-inside, shape-lies, symbol-inside, search-begins, search-ends, search-finds, search-stops}
-use Rattle.raises.proofs.Turns.{search-goes-on}
+use mathlib.Core.Path.{ap, ◌∙◌}
+use native.Mathlib.Omega.{arith}
+use Rattle.raises.specs.Search.{sought_as}
+use Rattle.raises.proofs.Turns.{inside, symbol-inside, search-ends, search-finds, search-stops, search-goes-on}
 use Rattle.raises.proofs.search.Goals as goal
 
-pub loop-left-init : goal.loop-left-init
-loop-left-init c = search (search-begins, rules)
+pub returns-in_err-heavy : goal.returns-in_err-heavy
+returns-in_err-heavy c =
+    ap (sought_as c.loop.weights) c.from_residual.ensures ∙ search-finds c.args.table.now.known c.loop.invariant (omega arith) c.in_err-heavy.ensures
 
-pub returns-in-Nothing : goal.returns-in-Nothing
-returns-in-Nothing c = search (search-finds, rules)
+pub rule-requires : goal.rule-requires
+rule-requires c = inside c.args.table.now.known c.loop.invariant (omega arith) c.in_ok-heavy.ensures
 
-pub bounds-reading-i : goal.bounds-reading-i
-bounds-reading-i c = search (shape-inside, rules)
+pub returns-in_default : goal.returns-in_default
+returns-in_default c =
+    search-stops c.args.table.now.known c.loop.invariant (omega arith) c.in_ok-heavy.ensures
+    (rw (c.rule.ensures.bytes, c.rule.ensures.shape) at c.raise.ensures) c.in_default.is
 
-pub raise-requires : goal.raise-requires
-raise-requires c = search (shape-lies, rules)
+pub bounds-weights-from : goal.bounds-weights-from
+bounds-weights-from c =
+    rw c.from.ensures
+    (symbol-inside c.args.table.now.known c.loop.invariant (omega arith) c.in_ok-heavy.ensures
+    (rw (c.rule.ensures.bytes, c.rule.ensures.shape) at c.raise.ensures) c.in-Some.is)
 
-pub bounds-weights-s : goal.bounds-weights-s
-bounds-weights-s c = search symbol-inside
-
-pub loop-left-preserved : goal.loop-left-preserved
-loop-left-preserved c = search (search-goes-on, rules)
-
-pub returns-in-Nothing-raise : goal.returns-in-Nothing-raise
-returns-in-Nothing-raise c = search (search-stops, rules)
+pub loop-preserved : goal.loop-preserved
+loop-preserved c =
+    search-goes-on c.args.table.now.known c.loop.invariant (omega arith) c.in_ok-heavy.ensures
+    (rw (c.rule.ensures.bytes, c.rule.ensures.shape) at c.raise.ensures) c.in-Some.is c.from.ensures (omega arith)
 
 pub returns : goal.returns
-returns c = search (search-ends, rules)
+returns c = search-ends c.args.table.now.known c.loop.invariant c.first_heavy-2.ensures (omega arith)

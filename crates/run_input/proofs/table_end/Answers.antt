@@ -1,41 +1,22 @@
 -- `run_input::table_end` meets its contract. The invariant: what is left of the records answers for the whole input. Assumes nothing.
-use native.Mathlib.Omega.{arith}
-use borrow.Author.Rules.{rules}
-use Rattle.run_input.proofs.Turns.{first, out, ended, end-record, unknown, cut, next}
+use Rattle.run_input.proofs.Turns.{begins, out, at-end, at-unknown, goes-on}
 use Rattle.run_input.proofs.table_end.Goals as goal
 
-pub loop-left-init : goal.loop-left-init
-loop-left-init c = search (first, rules)
+pub loop-byte-init : goal.loop-byte-init
+loop-byte-init c = begins _
 
-pub overflow_sub-left : goal.overflow_sub-left
-overflow_sub-left c = omega arith
+pub returns-in_default-kind_of : goal.returns-in_default-kind_of
+returns-in_default-kind_of c =
+    let byte = c.in-Some.ensures.lookup.3 in at-unknown c.loop-byte.invariant byte.0 (byte.1 0) c.kind_of.ensures c.in_default-kind_of.is
 
-pub returns-then-input-at : goal.returns-then-input-at
-returns-then-input-at c = search (ended, rules)
+pub returns-in-EndOfTable : goal.returns-in-EndOfTable
+returns-in-EndOfTable c =
+    let byte = c.in-Some.ensures.lookup.3 in at-end c.loop-byte.invariant byte.0 (byte.1 0) c.kind_of.ensures c.in-Some-kind_of.is c.in-EndOfTable.is
 
-pub overflow_add-result : goal.overflow_add-result
-overflow_add-result c = omega arith
-
-pub returns-then-byte-eq8 : goal.returns-then-byte-eq8
-returns-then-byte-eq8 c = search (end-record, rules)
-
-pub returns-then-size-eq0 : goal.returns-then-size-eq0
-returns-then-size-eq0 c = search (unknown, rules)
-
-pub overflow_sub-input : goal.overflow_sub-input
-overflow_sub-input c = omega arith
-
-pub returns-then-input-at-2 : goal.returns-then-input-at-2
-returns-then-input-at-2 c = search (cut, rules)
-
-pub overflow_add-at : goal.overflow_add-at
-overflow_add-at c = omega arith
-
-pub loop-left-smaller : goal.loop-left-smaller
-loop-left-smaller c = omega arith
-
-pub loop-left-preserved : goal.loop-left-preserved
-loop-left-preserved c = search (next, rules)
+pub loop-byte-preserved : goal.loop-byte-preserved
+loop-byte-preserved c =
+    let byte = c.in-Some.ensures.lookup.3 in
+    goes-on c.loop-byte.invariant byte.0 (byte.1 0) c.kind_of.ensures c.in-Some-kind_of.is c.in_default-kind.not-EndOfTable c.size_of-at.ensures
 
 pub returns : goal.returns
-returns c = search (out, rules)
+returns c = out c.loop-byte.invariant c.in_default.ensures.lookup.3

@@ -1,9 +1,11 @@
 -- `run_input::table_end` meets its contract. The invariant: what is left of the records answers for the whole input. Assumes nothing.
-use Rattle.run_input.proofs.Turns.{Left}
+use Prim.Native.Nat.{◌-◌}
+use lib.ListN.{length}
+use Rattle.run_input.proofs.Turns.{Going}
 use Rattle.run_input.proofs.table_end.Given as goal
 
-abbrev pub invariant-loop-left : goal.invariant-loop-left
-invariant-loop-left l = Left l.input l.at l.left
+abbrev pub invariant-loop-byte : goal.invariant-loop-byte
+invariant-loop-byte l = Going l.input l.at
 
-abbrev pub decreases-loop-left : goal.decreases-loop-left
-decreases-loop-left l = l.left
+abbrev pub decreases-loop-byte : goal.decreases-loop-byte
+decreases-loop-byte l = length l.input - l.at

@@ -1,36 +1,35 @@
 -- `read` meets its contract. The invariant: what is left of the records answers for the whole table, the scan is sane, and the marks are those of the
 -- rule being read.
-use native.Mathlib.Omega.{arith}
 use borrow.Author.Rules.{rules}
-use Rattle.table.proofs.Turns.{left-begins, near, follows, rule-among, next-none, next-rule, read-stopped, read-done, read-out}
+use Rattle.table.proofs.Turns.{left-begins, follows, smaller, rule-among, next-none, next-rule, read-stopped, read-done, end-near}
 use Rattle.table.proofs.read.Goals as goal
 
-pub loop-left-init : goal.loop-left-init
-loop-left-init c = search left-begins
-
-pub overflow_sub-left : goal.overflow_sub-left
-overflow_sub-left c = omega arith
-
-pub read_record-requires : goal.read_record-requires
-read_record-requires c = (search near, search rules)
+pub loop-next-init : goal.loop-next-init
+loop-next-init c = left-begins _ (search rules) (search rules) c.no_marks-named.ensures
 
 pub mark-requires : goal.mark-requires
 mark-requires c = (search rules, search follows)
 
-pub bounds-shapes-rules : goal.bounds-shapes-rules
-bounds-shapes-rules c = search rule-among
+pub bounds-shapes-s : goal.bounds-shapes-s
+bounds-shapes-s c = search rule-among
 
-pub loop-left-preserved-then-rules-gt0 : goal.loop-left-preserved-then-rules-gt0
-loop-left-preserved-then-rules-gt0 c = search next-rule
+pub loop-next-smaller-then-s-gt0 : goal.loop-next-smaller-then-s-gt0
+loop-next-smaller-then-s-gt0 c = search smaller
 
-pub loop-left-preserved : goal.loop-left-preserved
-loop-left-preserved c = search next-none
+pub loop-next-preserved-then-s-gt0 : goal.loop-next-preserved-then-s-gt0
+loop-next-preserved-then-s-gt0 c = search next-rule
 
-pub returns-in-Stop : goal.returns-in-Stop
-returns-in-Stop c = search read-stopped
+pub loop-next-smaller : goal.loop-next-smaller
+loop-next-smaller c = search smaller
 
-pub returns-in-Done : goal.returns-in-Done
-returns-in-Done c = search read-done
+pub loop-next-preserved : goal.loop-next-preserved
+loop-next-preserved c = search next-none
 
-pub returns : goal.returns
-returns c = search read-out
+pub end-requires : goal.end-requires
+end-requires c = search end-near
+
+pub returns-in-Ok-Done : goal.returns-in-Ok-Done
+returns-in-Ok-Done c = search read-done
+
+pub returns-in-Err : goal.returns-in-Err
+returns-in-Err c = search read-stopped

@@ -1,43 +1,18 @@
 -- `give` meets its contract: one law a return.
-use Rattle.text_reader.proofs.Gives.{front-long, front-fits, gives-short, gives-bad, gives-good}
-use native.Mathlib.Omega.{arith}
+use Rattle.std.proofs.lemmas.Result.{err_from_is_err_and}
+use Rattle.text_reader.proofs.Gives.{gives-short, gives-bad, gives-good}
 use Rattle.text_reader.proofs.give.Goals as goal
 
 pub returns-then-table-n : goal.returns-then-table-n
-returns-then-table-n c = gives-short c.requires c.if-table-n.true c.refused.ensures
+returns-then-table-n c = gives-short c.args.assembled.now c.args.n c.args.table.now c.requires c.if-table-n.true c.at.ensures
 
-pub slice_bounds-check-end : goal.slice_bounds-check-end
-slice_bounds-check-end c = front-long _ _ (omega (arith, c.in_room-end.ensures.second, c.requires))
-
-pub returns-then-result-ne0 : goal.returns-then-result-ne0
-returns-then-result-ne0 c =
-    gives-bad c.requires c.if-table-n.false
-    c.in_room-end.ensures c.check-result.ensures c.if-result-ne0.true
-
-pub slice_bounds-write-end : goal.slice_bounds-write-end
-slice_bounds-write-end c =
-    front-long _ _
-    (omega (
-      arith,
-      c.in_room-end.ensures.second,
-      c.requires,
-    ))
-
-pub write-requires : goal.write-requires
-write-requires c =
-    front-fits c.in_room-end.result
-    c.args.assembled.now
-    c.args.table.now
-    (omega (
-      arith,
-      c.in_room-end.ensures.first,
-      c.if-table-n.false,
-    ))
+pub returns-in_err-read : goal.returns-in_err-read
+returns-in_err-read c =
+    let p = err_from_is_err_and c.from_residual.result c.from_residual.ensures.1 in
+    rw (p.1, p.2) (gives-bad c.args.assembled.now c.args.n c.args.table.now c.requires c.if-table-n.false c.min.ensures
+    (rw (← c.read.ensures) c.in_err-read.was))
 
 pub returns : goal.returns
 returns c =
-    gives-good c.requires
-    c.if-table-n.false
-    c.in_room-end.ensures
-    c.check-result.ensures c.if-result-ne0.false
-    c.write.ensures
+    gives-good c.args.assembled.now c.args.n c.args.table.now c.requires c.if-table-n.false c.min.ensures
+    (rw (← c.read.ensures) c.in_ok-read.was) (rw c.copy_from_slice.ensures.after)

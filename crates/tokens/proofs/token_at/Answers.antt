@@ -1,20 +1,22 @@
--- `token_at` meets its contract: by the first byte, and for a minus by the token before it.
-use mathlib.Core.Path.{sym, ◌∙◌}
-use borrow.Author.Rules.{rules}
-use Rattle.tokens.proofs.Finds.{word-found, minus-found, negative-found, sign-found}
+-- `token_at` meets its contract: what the first byte is not, where no word and no negative constant stands there.
+use Rattle.std.proofs.Common.{rules}
+use Rattle.tokens.proofs.Finds.{word_found, minus_found, no_byte, operation_found, sign_found, within}
+use Rattle.tokens.proofs.token_at.Goals.{in_default-via-then-rest-lt1, in_default-via-in-45+else-not-after}
+use Rattle.tokens.proofs.token_at.Goals.{in_default-via-in-len1-up+else-is_word_byte+in_default}
 use Rattle.tokens.proofs.token_at.Goals as goal
 
-pub word_at-requires : goal.word_at-requires
-word_at-requires c = record { at_in_bounds = search rules; at_value = sym c.is_word_byte.ensures ∙ c.if-is_word_byte.true }
+pub returns-in-len1-up-clause-within : goal.returns-in-len1-up-clause-within
+returns-in-len1-up-clause-within c = within c.args.after c.args.rest.now c.word.result (search (word_found, rules))
 
-pub returns-then-is_word_byte : goal.returns-then-is_word_byte
-returns-then-is_word_byte c = search (word-found, rules)
+pub returns-in-45-clause-within : goal.returns-in-45-clause-within
+returns-in-45-clause-within c = within c.args.after c.args.rest.now c.negated.result (search (minus_found, rules))
 
-pub returns-then-after : goal.returns-then-after
-returns-then-after c = search (minus-found, rules)
+pub returns-in_default-clause-same : goal.returns-in_default-clause-same
+returns-in_default-clause-same c = elim c.in_default.branch [
+  | in_default-via-then-rest-lt1 w ↦ search (no_byte, rules)
+  | in_default-via-in-45+else-not-after w ↦ search (operation_found, rules)
+  | in_default-via-in-len1-up+else-is_word_byte+in_default w ↦ search (sign_found, rules)
+]
 
-pub returns-then-b-eq45 : goal.returns-then-b-eq45
-returns-then-b-eq45 c = search (negative-found, rules)
-
-pub returns : goal.returns
-returns c = search (sign-found, rules)
+pub returns-in_default-clause-within : goal.returns-in_default-clause-within
+returns-in_default-clause-within c = within c.args.after c.args.rest.now c.sign_of.result (returns-in_default-clause-same c)

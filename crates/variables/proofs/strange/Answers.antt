@@ -1,22 +1,7 @@
 -- `variables::strange` meets its contract: one arm a kind.
 use Rattle.model.specs.Variables.{strange}
+use Rattle.variables.proofs.Marks.{other-kind}
 use Rattle.variables.proofs.strange.Goals as goal
-
-pub returns-in-NextSymbol : goal.returns-in-NextSymbol
-unfolding strange
-returns-in-NextSymbol c = rw c.in-NextSymbol.is
-
-pub returns-in-NextRule : goal.returns-in-NextRule
-unfolding strange
-returns-in-NextRule c = rw c.in-NextRule.is
-
-pub returns-in-KeptHead : goal.returns-in-KeptHead
-unfolding strange
-returns-in-KeptHead c = rw c.in-KeptHead.is
-
-pub returns-in-RemovedHead : goal.returns-in-RemovedHead
-unfolding strange
-returns-in-RemovedHead c = rw c.in-RemovedHead.is
 
 pub returns-in-Comparison : goal.returns-in-Comparison
 unfolding strange
@@ -26,14 +11,5 @@ pub returns-in-BodyFact : goal.returns-in-BodyFact
 unfolding strange
 returns-in-BodyFact c = rw c.in-BodyFact.is c.strange_fact.ensures
 
-pub returns-in-BodyFail : goal.returns-in-BodyFail
-unfolding strange
-returns-in-BodyFail c = rw c.in-BodyFail.is
-
-pub returns-in-EndOfTable : goal.returns-in-EndOfTable
-unfolding strange
-returns-in-EndOfTable c = rw c.in-EndOfTable.is
-
-pub returns-in-Unknown : goal.returns-in-Unknown
-unfolding strange
-returns-in-Unknown c = rw c.in-Unknown.is
+pub returns-in_default : goal.returns-in_default
+returns-in_default c = other-kind _ _ _ c.in_default.not-Comparison c.in_default.not-BodyFact

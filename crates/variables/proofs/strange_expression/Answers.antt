@@ -1,4 +1,4 @@
--- `variables::strange_expression` meets its contract: one return a slot.
+-- `variables::strange_expression` meets its contract: one return a part.
 use Rattle.records.proofs.Tests.{chain}
 use Rattle.model.specs.Variables.{strange_expression}
 use Rattle.variables.proofs.strange_expression.Goals as goal
@@ -7,6 +7,6 @@ pub returns-then-strange_at : goal.returns-then-strange_at
 unfolding strange_expression
 returns-then-strange_at c = search chain
 
-pub returns : goal.returns
+pub returns-else-strange_at : goal.returns-else-strange_at
 unfolding strange_expression
-returns c = search chain
+returns-else-strange_at c = search chain

@@ -1,10 +1,10 @@
--- `matching::probing::probe` meets its contract: the place that it gives is one where it saw a settled slot. That it is the first is not asked.
-use borrow.Author.Rules.{rules}
-use Rattle.matching.proofs.Probed.{settled-here, settled-nowhere}
+-- `matching::probing::probe` meets its contract: the slot that is settled is the head's own.
+use Rattle.std.proofs.Common.{rules}
+use Rattle.matching.proofs.Slots.{asked-here, asked-nowhere}
 use Rattle.matching.proofs.probing.probe.Goals as goal
 
-pub returns-in-To : goal.returns-in-To
-returns-in-To c = search (settled-here, rules)
+pub returns-in-Some : goal.returns-in-Some
+returns-in-Some c = asked-here _ _ _ _ c.settled.ensures c.in-Some.is (search rules)
 
 pub returns : goal.returns
-returns c = search (settled-nowhere, rules)
+returns c = asked-nowhere _ _ _

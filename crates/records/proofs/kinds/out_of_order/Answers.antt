@@ -1,20 +1,13 @@
 -- `kinds::out_of_order` meets its contract.
-use Rattle.records.proofs.Tests.{tests}
+use borrow.Author.Tests.{le-ltb}
+use Rattle.records.proofs.Tests.{told}
 use Rattle.model.specs.Records.{out_of_order}
 use Rattle.records.proofs.kinds.out_of_order.Goals as goal
 
-pub earliest-requires : goal.earliest-requires
-unfolding out_of_order
-earliest-requires c = tt
-
 pub returns-then-stage-earliest : goal.returns-then-stage-earliest
 unfolding out_of_order
-returns-then-stage-earliest c = rw (← c.earliest.ensures) (search tests)
+returns-then-stage-earliest c = search told
 
-pub latest-requires : goal.latest-requires
+pub returns-else-stage-earliest : goal.returns-else-stage-earliest
 unfolding out_of_order
-latest-requires c = tt
-
-pub returns : goal.returns
-unfolding out_of_order
-returns c = rw (← c.latest.ensures, ← c.earliest.ensures) (search tests)
+returns-else-stage-earliest c = rw (← c.earliest.ensures, ← c.latest.ensures, le-ltb _ _ c.if-stage-earliest.false)

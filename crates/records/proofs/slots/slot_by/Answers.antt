@@ -1,30 +1,30 @@
--- `slots::slot_by` meets its contract: one return a case of the definition.
+-- `slots::slot_by` meets its contract: one arm a case of the definition.
 use native.Mathlib.Omega.{arith}
 use Rattle.records.proofs.Tests.{tests}
 use Rattle.model.specs.Slots.{slot_by}
 use Rattle.records.proofs.Constants.{constant-slot}
 use Rattle.records.proofs.slots.slot_by.Goals as goal
 
-pub returns-then-value-eq0 : goal.returns-then-value-eq0
+pub returns-in-0 : goal.returns-in-0
 unfolding slot_by
-returns-then-value-eq0 c = search tests
+returns-in-0 c = search tests
 
-pub returns-then-tag-eq0 : goal.returns-then-tag-eq0
+pub returns-in-1 : goal.returns-in-1
 unfolding slot_by
-returns-then-tag-eq0 c = search tests
+returns-in-1 c = constant-slot _ _ c.signed.ensures (omega arith) c.in-1.is
 
-pub returns-then-tag-eq1 : goal.returns-then-tag-eq1
+pub returns-in-2 : goal.returns-in-2
 unfolding slot_by
-returns-then-tag-eq1 c = constant-slot _ _ c.signed.ensures (omega arith) c.if-tag-eq1.true
+returns-in-2 c = rw c.in-2.is (search tests)
 
-pub returns-then-value-lt-VARIABLES : goal.returns-then-value-lt-VARIABLES
+pub returns-in_default : goal.returns-in_default
 unfolding slot_by
-returns-then-value-lt-VARIABLES c = search tests
+returns-in_default c = search tests
 
-pub returns-then-tag-eq2 : goal.returns-then-tag-eq2
+pub returns-in_default-2 : goal.returns-in_default-2
 unfolding slot_by
-returns-then-tag-eq2 c = search tests
+returns-in_default-2 c = rw c.in-2.is (search tests)
 
-pub returns : goal.returns
+pub returns-in_default-3 : goal.returns-in_default-3
 unfolding slot_by
-returns c = search tests
+returns-in_default-3 c = search tests

@@ -1,7 +1,6 @@
 -- `rule::put_rule` meets its contract.
-use borrow.Author.Rules.{rules}
 use Rattle.rule_writing.proofs.Rules.{rule-put}
 use Rattle.rule_writing.proofs.rule.put_rule.Goals as goal
 
 pub returns : goal.returns
-returns c = search (rule-put, rules)
+returns c = rule-put c.args.table.now c.args.shape c.put_sides.ensures c.put_conditions.ensures c.put_body.ensures c.put_bytes.ensures

@@ -1,22 +1,28 @@
--- `step::deciding::decide` meets its contract, by the cases of the top entry.
-use borrow.Author.Rules.{rules}
-use Rattle.step.proofs.Decides.{tried, store-full, activates, attempted, drops, fails-there}
+use mathlib.Core.Path.{sym, ◌∙◌}
+use Rattle.step.proofs.Decides.{activates, store-full, drops, fails-there, rule-among, next-fits, tried, attempted}
 use Rattle.step.proofs.deciding.decide.Goals as goal
 
-pub returns-then-stored-ge-CAPACITY : goal.returns-then-stored-ge-CAPACITY
-returns-then-stored-ge-CAPACITY c = search (store-full, rules)
+pub returns-then-store-lt-CAPACITY-clause-decided : goal.returns-then-store-lt-CAPACITY-clause-decided
+returns-then-store-lt-CAPACITY-clause-decided c = activates c.in-Waiting.is c.if-store-lt-CAPACITY.true
+
+pub returns-else-store-lt-CAPACITY-clause-decided : goal.returns-else-store-lt-CAPACITY-clause-decided
+returns-else-store-lt-CAPACITY-clause-decided c = store-full c.in-Waiting.is c.if-store-lt-CAPACITY.false
+
+pub returns-in-None-clause-decided : goal.returns-in-None-clause-decided
+returns-in-None-clause-decided c = drops c.in-Active.is (sym c.place_of.ensures.place ∙ c.in-None.is)
+
+pub bounds-places-place : goal.bounds-places-place
+bounds-places-place c = rule-among c.place_of.ensures.rules c.args.e c.in-Active.j c.place_of.ensures.place c.in-Some.is
+
+pub overflow_add-j : goal.overflow_add-j
+overflow_add-j c = next-fits c.place_of.ensures.rules c.args.e c.in-Active.j c.place_of.ensures.place c.in-Some.is
 
 pub attempt-requires : goal.attempt-requires
-attempt-requires c = search (tried, rules)
+attempt-requires c = tried c.place_of.ensures.rules c.args.e c.in-Active.j c.place_of.ensures.place c.in-Some.is c.requires.0 c.requires.1.1
 
-pub returns-else-stored-ge-CAPACITY : goal.returns-else-stored-ge-CAPACITY
-returns-else-stored-ge-CAPACITY c = search (activates, rules)
+pub returns-in-Some-clause-decided : goal.returns-in-Some-clause-decided
+returns-in-Some-clause-decided c =
+    attempted c.place_of.ensures.rules c.args.e c.in-Active.j c.place_of.ensures.place c.in-Some.is c.in-Active.is c.attempt.ensures
 
-pub returns-in-At : goal.returns-in-At
-returns-in-At c = search (attempted, rules)
-
-pub returns-in-Nothing : goal.returns-in-Nothing
-returns-in-Nothing c = search (drops, rules)
-
-pub returns-in-Fail : goal.returns-in-Fail
-returns-in-Fail c = search (fails-there, rules)
+pub returns-in-Fail-clause-decided : goal.returns-in-Fail-clause-decided
+returns-in-Fail-clause-decided c = fails-there c.in-Fail.is

@@ -1,10 +1,9 @@
 -- `rules::rule_facts` meets its contract.
-use Rattle.rule_weights.proofs.Turns.{body-lies}
+use borrow.Author.Rules.{rules}
 use Rattle.step_bound.proofs.Turns.{rule-facts}
 use Rattle.step_bound.proofs.rules.rule_facts.Goals as goal
 
-pub body_facts-requires : goal.body_facts-requires
-body_facts-requires c = search body-lies
-
 pub returns : goal.returns
-returns c = search rule-facts
+returns c =
+    rule-facts c.args.rule.now.lies c.items_start-from.ensures
+    (c.sum_over.ensures (λ s. 1) 1 (record { each = λ s r h g p. record { same = search rules; few = search rules } }))

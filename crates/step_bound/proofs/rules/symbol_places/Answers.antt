@@ -1,19 +1,14 @@
 -- `rules::symbol_places` meets its contract: each turn counts the heads of one rule.
-use Rattle.rule_weights.proofs.Turns.{rule-among, lies}
+use native.Mathlib.Omega.{arith}
 use Rattle.step_bound.proofs.Turns.{places-begin, places-turn, places-done}
 use Rattle.step_bound.proofs.rules.symbol_places.Goals as goal
 
-pub loop-i-init : goal.loop-i-init
-loop-i-init c = search places-begin
+pub loop-n-init : goal.loop-n-init
+loop-n-init c = places-begin _ c.args.table.now.known
 
-pub bounds-reading-i : goal.bounds-reading-i
-bounds-reading-i c = search rule-among
-
-pub rule_heads_with-count-requires : goal.rule_heads_with-count-requires
-rule_heads_with-count-requires c = search lies
-
-pub loop-i-preserved : goal.loop-i-preserved
-loop-i-preserved c = search places-turn
+pub loop-n-preserved : goal.loop-n-preserved
+loop-n-preserved c =
+    places-turn _ c.args.table.now.known c.loop-n.invariant (omega arith) (rw (c.rule.ensures.bytes, c.rule.ensures.shape) at c.rule_heads_with-count.ensures)
 
 pub returns : goal.returns
-returns c = search places-done
+returns c = places-done _ c.args.table.now.known c.loop-n.invariant (omega arith) (omega arith)

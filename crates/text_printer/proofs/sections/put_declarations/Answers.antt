@@ -1,13 +1,12 @@
--- `sections::put_declarations` meets its contract. The invariant: the declarations that are left are what is left of the text.
-use borrow.Author.Rules.{rules}
-use Rattle.text_printer.proofs.Walks.{declarations-begin, declaration-more, declarations-ended}
+-- `sections::put_declarations` meets its contract.
+use native.Mathlib.Omega.{arith}
+use Rattle.text_printer.proofs.Walks.{left-none, left-more, one-declared, all-declared}
 use Rattle.text_printer.proofs.sections.put_declarations.Goals as goal
 
-pub loop-left-init : goal.loop-left-init
-loop-left-init c = search (declarations-begin, rules)
-
-pub loop-left-preserved : goal.loop-left-preserved
-loop-left-preserved c = search (declaration-more, rules)
+pub loop-k-preserved : goal.loop-k-preserved
+loop-k-preserved c =
+    left-more c.loop-k.invariant c.put_declaration.ensures (omega arith) _
+    (one-declared c.args.table.now c.loop-k.k c.args.symbols c.loop-k-test.true)
 
 pub returns : goal.returns
-returns c = search (declarations-ended, rules)
+returns c = left-none c.loop-k.invariant (omega arith) (all-declared c.args.table.now c.loop-k.k c.args.symbols (omega arith))

@@ -1,19 +1,21 @@
--- `sections::put_rules` meets its contract. The invariant: the rules that are left are what is left of the text.
-use borrow.Author.Rules.{rules}
-use Rattle.text_printer.proofs.Walks.{rules-begin, rule-printable, shape-in, rule-more, rules-ended}
+-- `sections::put_rules` meets its contract.
+use native.Mathlib.Omega.{arith}
+use Rattle.grammar.specs.Layout.{tree_of}
+use Rattle.rule_weights.proofs.Turns.{few-rules}
+use Rattle.text_printer.proofs.Walks.{left-none, left-more, shape-printable, one-ruled, all-ruled, rules-written}
 use Rattle.text_printer.proofs.sections.put_rules.Goals as goal
 
-pub loop-left-init : goal.loop-left-init
-loop-left-init c = search (rules-begin, rules)
+pub shared_ref_as_front-shape-items : goal.shared_ref_as_front-shape-items
+shared_ref_as_front-shape-items c = few-rules c.requires.good
 
-pub bounds-reading-i : goal.bounds-reading-i
-bounds-reading-i c = search (shape-in, rules)
+pub put_rule-requires-clause-rule : goal.put_rule-requires-clause-rule
+put_rule-requires-clause-rule c = shape-printable c.requires.good c.loop-shape-test.true
 
-pub put_rule-end-requires : goal.put_rule-end-requires
-put_rule-end-requires c = (search (rule-printable, rules), search rules)
-
-pub loop-left-preserved : goal.loop-left-preserved
-loop-left-preserved c = search (rule-more, rules)
+pub loop-shape-preserved : goal.loop-shape-preserved
+loop-shape-preserved c = left-more c.loop-shape.invariant c.put_rule.ensures (omega arith) _ (one-ruled c.requires.good c.loop-shape-test.true)
 
 pub returns : goal.returns
-returns c = search (rules-ended, rules)
+unfolding tree_of
+returns c =
+    let k = c.requires.good in
+    left-none c.loop-shape.invariant (rules-written k c.loop-shape.auto.shape-index-end c.loop-shape-test.false) (all-ruled k c.loop-shape-test.false)

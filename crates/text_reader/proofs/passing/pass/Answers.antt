@@ -1,56 +1,35 @@
 -- `passing::pass` meets its contract. The invariant: what is left of the tokens, read from here, gives what the text is.
-use mathlib.Core.Path.{refl}
-use Rattle.text_reader.proofs.Passes.{reads-begin, reads-at, reads-near, reads-end, reads-strange, reads-sane, reads-inside}
-use Rattle.text_reader.proofs.Passes.{reads-wrong, reads-more}
-use borrow.Author.Rules.{rules}
+use mathlib.Core.Path.{refl, ap, ◌∙◌}
+use Rattle.std.proofs.Common.{rules}
+use Rattle.std.specs.Prelude.{Some}
+use Rattle.std.proofs.lemmas.Result.{err_from_is_err_and}
+use Rattle.text_reader.proofs.Passes.{reads-begin, reads-near, reads-end, reads-strange, reads-wrong, reads-more}
 use Rattle.text_reader.proofs.passing.pass.Goals as goal
 
-pub loop-table-init : goal.loop-table-init
-loop-table-init c = (search (reads-begin, rules), refl)
+pub loop-next-init : goal.loop-next-init
+loop-next-init c = (reads-begin refl refl refl c.start-a.ensures c.requires.blank, refl)
 
-pub next-requires : goal.next-requires
-next-requires c = c.loop-table.invariant.0.within
-
-pub finish-requires : goal.finish-requires
-finish-requires c = reads-at c.loop-table.invariant.0 c.requires.0
-
-pub returns-in-End : goal.returns-in-End
-returns-in-End c =
-    reads-end c.loop-table.invariant.0
-    c.next.ensures c.in-End.is
-    c.finish.ensures
-
-pub returns-in-Strange : goal.returns-in-Strange
-returns-in-Strange c = reads-strange c.loop-table.invariant.0 c.next.ensures c.in-Strange.is
+pub returns-in_err-place : goal.returns-in_err-place
+returns-in_err-place c =
+    let p = err_from_is_err_and c.from_residual.result c.from_residual.ensures.1 in
+    rw (p.1, p.2) (reads-strange c.requires.short c.loop-next.invariant.0 c.next.ensures (c.in-Some.is ∙ ap Some c.in_err-place.was))
 
 pub advance-to-requires : goal.advance-to-requires
-advance-to-requires c = (
-  reads-sane c.loop-table.invariant.0 c.next.ensures
-      c.in-Token.is,
-  reads-near c.loop-table.invariant.0
-      c.requires.0,
-)
-
-pub wrong_from-requires : goal.wrong_from-requires
-wrong_from-requires c =
-    reads-inside c.loop-table.invariant.0
-    c.next.ensures
-    c.in-Token.is
+advance-to-requires c = reads-near c.requires.short c.loop-next.invariant.0
 
 pub returns-then-is_stuck : goal.returns-then-is_stuck
 returns-then-is_stuck c =
-    reads-wrong c.loop-table.invariant.0
-    c.next.ensures
-    c.in-Token.is
-    c.advance-to.ensures c.is_slot.ensures
+    reads-wrong c.requires.short c.loop-next.invariant.0 c.next.ensures (c.in-Some.is ∙ ap Some c.in_ok-place.was) c.advance-to.ensures
     c.is_stuck.ensures c.if-is_stuck.true c.wrong_from.ensures
 
-pub loop-table-preserved : goal.loop-table-preserved
-loop-table-preserved c = (
-  reads-more c.loop-table.invariant.0
-      c.next.ensures
-      c.in-Token.is
-      c.advance-to.ensures c.is_slot-after.ensures c.is_stuck.ensures
-      c.if-is_stuck.false,
+pub loop-next-preserved : goal.loop-next-preserved
+loop-next-preserved c = (
+  reads-more c.requires.short c.loop-next.invariant.0 c.next.ensures (c.in-Some.is ∙ ap Some c.in_ok-place.was) c.advance-to.ensures
+      c.is_stuck.ensures c.if-is_stuck.false,
   search rules,
 )
+
+pub returns : goal.returns
+returns c =
+    reads-end c.requires.short c.loop-next.invariant.0 c.next.ensures c.in_default.is c.finish.ensures
+    (λ n e. rw e at c.ok_or.ensures.value) (λ e. rw (e, c.at.ensures) at c.ok_or.ensures.value)

@@ -1,22 +1,21 @@
 -- `values::bodies::work_out` meets its contract: what the items that are left come to, behind those that are worked out, is what the body comes to.
-use borrow.Author.Rules.{rules}
-use Rattle.values.proofs.Worked.{work-first, work-here, work-behind, work-room, work-lacks, work-more, work-done}
+use Rattle.values.proofs.Lists.{work-first, work-here, work-lacks, work-more, work-done}
 use Rattle.values.proofs.bodies.work_out.Goals as goal
 
-pub loop-left-init : goal.loop-left-init
-loop-left-init c = search (work-first, rules)
+pub loop-i-init : goal.loop-i-init
+loop-i-init c = work-first _ _ _ _ _ c.told-body c.requires
+
+pub item_entry-requires : goal.item_entry-requires
+item_entry-requires c = work-here c.loop-i.invariant c.loop-i-test.true
 
 pub behind_item-at-requires : goal.behind_item-at-requires
-behind_item-at-requires c = search (work-here, work-behind, rules)
+behind_item-at-requires c = work-here c.loop-i.invariant c.loop-i-test.true
 
-pub work_out_item-requires : goal.work_out_item-requires
-work_out_item-requires c = search (work-here, work-behind, work-room, rules)
+pub returns-in_err-body : goal.returns-in_err-body
+returns-in_err-body c = rw c.from_residual.ensures (work-lacks c.loop-i.invariant c.loop-i-test.true c.item_entry.ensures c.in_err-body.was)
 
-pub loop-left-preserved : goal.loop-left-preserved
-loop-left-preserved c = search (work-more, rules)
-
-pub returns-else-work_out_item : goal.returns-else-work_out_item
-returns-else-work_out_item c = search (work-lacks, rules)
+pub loop-i-preserved : goal.loop-i-preserved
+loop-i-preserved c = work-more c.loop-i.invariant c.loop-i-test.true c.item_entry.ensures c.in_ok-body.was c.behind_item-at.ensures
 
 pub returns : goal.returns
-returns c = search (work-done, rules)
+returns c = work-done c.loop-i.invariant c.loop-i-test.false

@@ -1,20 +1,21 @@
 -- `values::guards::guard_value` meets its contract: what is left of the list has the value of the whole, up to the first comparison that is not true.
-use mathlib.Core.Path.{refl}
-use borrow.Author.Rules.{rules}
-use Rattle.values.proofs.Evaluating.{guard-true, guard-false, guard-unknown, guard-none}
+use Rattle.values.proofs.Lists.{guard-step, guard-end}
 use Rattle.values.proofs.guards.guard_value.Goals as goal
 
-pub loop-left-init : goal.loop-left-init
-loop-left-init c = (search rules, refl)
+pub returns-in_err-comparison_value : goal.returns-in_err-comparison_value
+returns-in_err-comparison_value c =
+    let s = guard-step _ _ _ _ _ c.loop-i.invariant c.loop-i-test.true c.comparison_value.ensures in
+    rw (c.from_residual.ensures) (rw c.in_err-comparison_value.was at s)
 
-pub loop-left-preserved : goal.loop-left-preserved
-loop-left-preserved c = (search rules, search (guard-true, rules))
+pub returns-then-not-branch : goal.returns-then-not-branch
+returns-then-not-branch c =
+    let s = guard-step _ _ _ _ _ c.loop-i.invariant c.loop-i-test.true c.comparison_value.ensures in
+    rw (c.in_ok-comparison_value.was, c.if-not-branch.true) at s
 
-pub returns-in-False : goal.returns-in-False
-returns-in-False c = search (guard-false, rules)
-
-pub returns-in-Undefined : goal.returns-in-Undefined
-returns-in-Undefined c = search (guard-unknown, rules)
+pub loop-i-preserved : goal.loop-i-preserved
+loop-i-preserved c =
+    let s = guard-step _ _ _ _ _ c.loop-i.invariant c.loop-i-test.true c.comparison_value.ensures in
+    rw (c.in_ok-comparison_value.was, c.if-not-branch.false) at s
 
 pub returns : goal.returns
-returns c = search (guard-none, rules)
+returns c = guard-end _ _ _ _ _ c.loop-i.invariant c.loop-i-test.false

@@ -1,14 +1,8 @@
--- `goals::goal_weight` meets its contract: each turn weighs one fact.
+-- `goals::goal_weight` meets its contract.
 use borrow.Author.Rules.{rules}
-use Rattle.rule_weights.proofs.Parts.{ended}
-use Rattle.weighing.proofs.Parts.{goal-begins, goal-none, goal-weighed}
+use Rattle.rule_weights.proofs.Parts.{byte-counted}
+use Rattle.weighing.proofs.Parts.{goal-counted}
 use Rattle.weighing.proofs.goals.goal_weight.Goals as goal
 
-pub loop-left-init : goal.loop-left-init
-loop-left-init c = search (goal-begins, rules)
-
-pub loop-left-preserved : goal.loop-left-preserved
-loop-left-preserved c = search (goal-weighed, rules)
-
 pub returns : goal.returns
-returns c = search (ended, goal-none, rules)
+returns c = goal-counted _ _ c.requires (c.sum_over.ensures _ 255 (record { each = λ s r h g p. byte-counted (search rules) g }))
