@@ -4,25 +4,23 @@
 #![tactic(auto)]
 
 use printing::{Stream, put_refusal};
-use std::fmt;
 
 // The most bytes of an input, and of a text.
 const ROOM: usize = 65536;
 
-fn print(table: &[u8]) -> fmt::Result {
+fn print(table: &[u8]) {
     let mut text = [0; ROOM];
     let printed = text_printer::print_text(table, &mut text);
     if printed.result.number != 0 {
-        return put_refusal(printed.result);
+        put_refusal(printed.result);
     }
     if let Some(bytes) = text.get(..printed.length as usize) {
         Stream::output().put_bytes(bytes);
     }
-    Ok(())
 }
 
 fn main() {
     let mut space = [0; ROOM];
     let n = io::read_full(Stream::INPUT, &mut space);
-    let _ = print(&space[..n]);
+    print(&space[..n]);
 }

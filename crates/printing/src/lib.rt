@@ -2,6 +2,8 @@
 // none: each is proved safe and ending.
 #![tactic(auto)]
 
+ghost use Rattle.std.specs.Prelude.{◌≡◌, pos};
+
 use model::{Answer, CallResult, Symbol};
 use records::geometry;
 use std::fmt::{self, Write};
@@ -14,11 +16,15 @@ impl Stream {
     // The stream that a program reads.
     pub const INPUT: i32 = 0;
 
-    pub fn output() -> Stream {
+    pub fn output() -> Stream
+        ensures { result.0 ≡ pos 1 }
+    {
         Stream(1)
     }
 
-    pub fn error() -> Stream {
+    pub fn error() -> Stream
+        ensures { result.0 ≡ pos 2 }
+    {
         Stream(2)
     }
 
@@ -84,14 +90,13 @@ impl fmt::Display for StoredFact<'_> {
 }
 
 // The stored facts of an answer, a line each.
-pub fn put_facts(out: &mut Stream, table: &[u8], facts: &[u8]) -> fmt::Result {
+pub fn put_facts(out: &mut Stream, table: &[u8], facts: &[u8]) {
     for record in facts.chunks_exact(Answer::RECORD_LEN) {
-        out.writeln(StoredFact { table, record })?;
+        let _ = out.writeln(StoredFact { table, record });
     }
-    Ok(())
 }
 
 // The number and the place of a refusal, on the standard error.
-pub fn put_refusal(r: CallResult) -> fmt::Result {
-    writeln!(Stream::error(), "{} {}", r.number, r.place)
+pub fn put_refusal(r: CallResult) {
+    let _ = writeln!(Stream::error(), "{} {}", r.number, r.place);
 }

@@ -17,13 +17,12 @@ fn run_input(out: &mut Stream, input: &[u8]) -> fmt::Result {
     let mut answer = [0; Answer::MIN];
     let result = engine::run(table, goal, STEP_LIMIT, &mut answer);
     out.writeln(Numbers(result))?;
-    if result.number != 0 {
-        return Ok(());
+    if result.number == 0 {
+        if let Some(facts) = answer.get(..Answer::RECORD_LEN * result.stored as usize) {
+            put_facts(out, table, facts);
+        }
     }
-    match answer.get(..Answer::RECORD_LEN * result.stored as usize) {
-        Some(facts) => put_facts(out, table, facts),
-        None => Ok(()),
-    }
+    Ok(())
 }
 
 fn run(out: &mut Stream) -> fmt::Result {

@@ -86,11 +86,11 @@ outcome_of st e es f (Err x) = stops (ending_number x) (ending_place x)
 
 -- ---- a firing's room
 
--- 6 or 7, where stack or history have no room
 -- how deep the stack is under the body
 abbrev pub below : Instance → ℕ → ℕ
 below g under = cond (stays g) (under + 1) under
 
+-- 6 or 7, where stack or history have no room
 abbrev pub room_of : Instance → ℕ → ℕ → Result ⊤ Ending
 room_of g under noted =
     cond (ltb stack_room (below g under + g.shape.items)) (Err (FullStack g.place.rule))
