@@ -11,7 +11,7 @@ use model::FactId;
 pub fn is_among(id: FactId, ids: &[FactId]) -> bool
     ensures { result ≡ is_among id ids.now }
 {
-    ids.contains(&id)
+    ids.iter().any(|other| *other == id)
 }
 
 // What stays of a list goes to its front, in order. Gives how many those are.
@@ -24,11 +24,10 @@ pub fn retain<T: Copy, F: Fn(&T) -> bool>(items: &mut [T], stays: F) -> usize
 {
     let mut kept = 0;
     for i in 0..items.len() {
-        let item = items[i];
-        if stays(&item) {
+        if stays(&items[i]) {
             // Until one is left out, each is where it belongs.
             if kept < i {
-                items[kept] = item;
+                items[kept] = items[i];
             }
             kept += 1;
         }
