@@ -137,6 +137,8 @@ fn behind_argument(at: usize, n: u8, t: Token) -> Assembly
     last_argument(at, t)
 }
 
+// Inlined: as a call it kept what is assembled in memory, for every token.
+#[inline(always)]
 pub fn behind_formula(at: usize, s: Side, t: Token, table: &mut [u8]) -> Assembly
     requires { Near at }
     ensures { Goes t (behind_formula at s) table.old result table.new }

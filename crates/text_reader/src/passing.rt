@@ -50,6 +50,8 @@ fn finish(a: Assembly, table: &mut [u8]) -> Option<usize>
 }
 
 // Behind a token with which no text goes on, there may still be a byte at which there is no token.
+#[cold]
+#[inline(never)]
 fn wrong_from(mut tokens: Tokens, place: u32) -> Refusal
     ensures { (n : ℕ) → Err result ≡ passed_of n (wrong_from place (lexed_in tokens.entry)) }
 {

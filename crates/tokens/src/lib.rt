@@ -70,7 +70,8 @@ pub fn is_slot(t: Token) -> bool
 }
 
 // The token at the front; `after` says whether the token before it is a constant or a variable.
-// Behind these a minus is an operation.
+// Behind these a minus is an operation. Inlined into the loops over tokens, as `word` and `sign_of` are into it.
+#[inline(always)]
 #[tactic(auto, using(crate::proofs::Finds::first_byte))]
 pub fn token_at(rest: &[u8], after: bool) -> Option<Spelled>
     ensures same { found_of result ≡ token_at after rest.now }

@@ -6,6 +6,7 @@ ghost use Rattle.tokens.specs.Views.{found_of};
 use crate::{Comparator, Mark, Operation, Spelled, Token};
 
 // The longest first: no sign is the beginning of an earlier one.
+#[inline(always)]
 #[tactic(auto, using(crate::proofs::SignReads::sign_rules))]
 pub fn sign_of(rest: &[u8]) -> Option<Spelled>
     ensures { found_of result ≡ sign_of signs rest.now }

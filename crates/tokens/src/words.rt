@@ -71,6 +71,7 @@ fn keyword(word: &[u8]) -> Option<Mark>
 }
 
 // The word at the front.
+#[inline(always)]
 #[tactic(auto, using(crate::proofs::WordReads::word_rules))]
 pub fn word(rest: &[u8]) -> Option<Spelled>
     requires { 0 < run rest.now }
