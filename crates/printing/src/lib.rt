@@ -56,14 +56,18 @@ impl fmt::Display for Numbers {
     }
 }
 
-// Two digits a byte.
+// Two digits a byte. Up to eight bytes are one number, since each write goes to the system by itself.
 #[derive(Clone, Copy)]
 pub struct Hex<'a>(pub &'a [u8]);
 
 impl fmt::Display for Hex<'_> {
     fn fmt<W: fmt::Write>(&self, f: &mut fmt::Formatter<W>) -> fmt::Result {
-        for byte in self.0 {
-            write!(f, "{byte:02x}")?;
+        for bytes in self.0.chunks(8) {
+            let mut number: u64 = 0;
+            for byte in bytes {
+                number = number << 8 | u64::from(*byte);
+            }
+            write!(f, "{number:0width$x}", width = 2 * bytes.len())?;
         }
         Ok(())
     }
