@@ -1,14 +1,18 @@
 -- What the functions of a try ask and give.
-use Rattle.std.specs.Prelude.{ℕ, suc, ◌≤◌, ◌<◌, ◌≡◌, List, length, get_or, take, Option, Some, None, Result, Ok, Err, ⊤}
+use Rattle.std.specs.Prelude.{ℕ, suc, ◌-◌, ◌≤◌, ◌<◌, ◌≡◌, List, length, get_or, slice_get, take, Option, Some, None, Result, Ok, Err, ⊤}
 use Rattle.model.specs.declared.Binding.{Binding}
 use Rattle.model.specs.declared.Entry.{Entry}
-use Rattle.model.specs.declared.Item.TheVariants.{Active}
+use Rattle.model.specs.declared.Item.{Item}
+use Rattle.model.specs.declared.Item.TheVariants.{Waiting, Active, Fail}
 use Rattle.model.specs.declared.Occurrence.{Occurrence}
 use Rattle.model.specs.declared.RuleShape.{RuleShape}
+use Rattle.model.specs.declared.Symbol.{Symbol}
 use Rattle.model.specs.Limits.{most_items, stack_room, history_room}
 use Rattle.model.specs.Reading.{read_of, no_shape}
-use Rattle.model.specs.Table.{table_of, items_start, items_from}
+use Rattle.model.specs.Table.{table_of, items_start, items_from, places}
 use Rattle.model.specs.Steps.{State, body_entries, prunes, at_place}
+use Rattle.occurrences.specs.declared.Mark.{Mark}
+use Rattle.occurrences.specs.Counting.{mark_after}
 use Rattle.records.specs.Geometry.{ItemsLie}
 use Rattle.search.specs.declared.Quest.{Quest}
 use Rattle.step.specs.declared.Firing.{Firing}
@@ -49,6 +53,14 @@ pub record Applied (q : Quest) (under : ℕ) (f₀ f : Firing) (r : Result Insta
   pub is : r ≡ apply_of (instance_of q) (room_of (instance_of q) under (length q.past.now)) (body_of q f₀.binding)
   pub body : CameTo (take q.shape.items f.body) (body_of q f₀.binding)
   pub chosen : f.chosen ≡ f₀.chosen
+
+-- ---- the mark
+
+-- the mark behind an entry: an active one moves it, as what it asks for is found
+abbrev pub mark_behind : List ℕ → Option Mark → Symbol → Item → Option Mark
+mark_behind t m s (Waiting f) = m
+mark_behind t m s (Active i j) = mark_after m s j (slice_get (places (table_of t) s) (j.0 - 1))
+mark_behind t m s Fail = m
 
 -- ---- the contracts
 

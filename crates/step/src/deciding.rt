@@ -3,7 +3,7 @@ ghost use Rattle.std.specs.Prelude.{◌≡◌, ◌<◌, ◌≤◌, length};
 ghost use Rattle.model.specs.Limits.{stack_room, store_room, history_room};
 ghost use Rattle.model.specs.Table.{table_of};
 ghost use Rattle.step.specs.Outcomes.{no_firing, Decided};
-ghost use Rattle.step.specs.Deciding.{Applying, Applied, Tried, Attempted};
+ghost use Rattle.step.specs.Deciding.{Applying, Applied, Tried, Attempted, mark_behind};
 
 use crate::{Decision, Ending, Firing, Instance};
 use model::{Binding, Entry, FactId, Fired, Item, Occurrence, Rule, Store, Stored};
@@ -78,6 +78,7 @@ pub fn decide(
     requires { (under < stack_room) × ((length store.now ≤ store_room) × (length past.now ≤ history_room)) }
     ensures decided { Decided (table_of places.old.rules.table.now) e under store.now past.now firing.new result }
     ensures rules { places.new.rules ≡ places.old.rules }
+    ensures mark { places.new.mark ≡ mark_behind places.old.rules.table.now places.old.mark e.symbol e.item }
 {
     match e.item {
         Item::Waiting(_) => {

@@ -5,6 +5,7 @@ ghost use Rattle.model.specs.Results.{counts_of};
 ghost use Rattle.model.specs.Run.{run, ended_as};
 ghost use Rattle.model.specs.Table.{table_of};
 ghost use Rattle.step.specs.Outcomes.{Decided};
+ghost use Rattle.step.specs.Deciding.{mark_behind};
 ghost use Rattle.steps.specs.States.{state_of, Fresh, Finished};
 
 use crate::Run;
@@ -36,6 +37,7 @@ impl Run<'_> {
         ensures firings { self.new.firings ≡ self.old.firings }
         ensures len { self.new.stack.len ≡ self.old.stack.len }
         ensures rules { self.new.places.rules ≡ self.old.places.rules }
+        ensures mark { self.new.places.mark ≡ mark_behind self.old.places.rules.table.now self.old.places.mark e.symbol e.item }
     {
         let store = self.store.items();
         let past = self.history.items();
