@@ -1,10 +1,10 @@
 -- Laws of words in bytes, for the crates that cite them: a word that was written is read, what lies outside is kept, bits and
 -- signed numbers go there and back, and how large each can be. Assumes nothing.
 use Rattle.std.specs.Prelude.{◌≡◌, refl, ◌≢◌, ◌⊎◌, List, [], ◌∷◌, ◌++◌, ℕ, zero, suc, ◌+◌, ◌-◌, ◌/◌, ◌%◌, ◌≤◌, ◌<◌, ℤ, pos, negsuc}
-use Rattle.std.specs.Prelude.{length, get_or, set, take, drop}
+use Rattle.std.specs.Prelude.{Bool, true, false, ltb, length, get_or, set, take, drop}
 use Rattle.std.proofs.Common.{sym, ap, subst, to_z, of_z, to_z-of_z, ◌∙◌, inl}
 use Rattle.std.proofs.Common.{inr, ⊎_elim, append_assoc, add_assoc, mod-eq_of_lt, add-one, arith, length-set, get_or-set_same}
-use Rattle.std.proofs.Common.{get_or-set_other, lt-length-set, get_or-drop, get_or-append-add, Fits, SFits, lt-ltb, le-ltb}
+use Rattle.std.proofs.Common.{get_or-set_other, lt-length-set, get_or-drop, get_or-append-add, Fits, SFits, lt-ltb, le-ltb, ltb-true, ltb-false}
 use Rattle.std.proofs.Math.Facts.{of_z-to_z, sfits_to_z, Fits-of_z}
 use Rattle.std.proofs.Math.Nat.{div-div-eq-div-mul}
 use Rattle.std.proofs.Math.Numerals.{add-two, add-three}
@@ -50,6 +50,26 @@ signed-bits v f = sym (ap signed_of (bits-are v)) ∙ sym (signed-are (of_z w32 
 
 pub bits-signed : (n : ℕ) → n < 4294967296 → bits_of (signed_of n) ≡ n
 bits-signed n q = sym (bits-are (signed_of n)) ∙ ap (of_z w32) (sym (signed-are n q)) ∙ of_z-to_z {w = w32} (record { fits = q })
+
+-- by the half that a number is in
+half-test : (t : Bool) (n : ℕ) → ltb n 2147483648 ≡ t → (n < 2147483648) ⊎ (2147483648 ≤ n)
+half-test true n e = inl (ltb-true n 2147483648 e)
+half-test false n e = inr (ltb-false n 2147483648 e)
+
+half : (n : ℕ) → (n < 2147483648) ⊎ (2147483648 ≤ n)
+half n = half-test (ltb n 2147483648) n refl
+
+fits-low : (n : ℕ) → n < 2147483648 → SFits w32 (signed_of n)
+fits-low n p = signed-fits n (omega arith)
+
+fits-high : (n : ℕ) → 2147483648 ≤ n → n < 4294967296 → SFits w32 (signed_of n)
+fits-high n p q = signed-fits n q
+
+back-low : (n : ℕ) → n < 2147483648 → bits_of (signed_of n) ≡ n
+back-low n p = bits-signed n (omega arith)
+
+back-high : (n : ℕ) → 2147483648 ≤ n → n < 4294967296 → bits_of (signed_of n) ≡ n
+back-high n p q = bits-signed n q
 
 -- ---- words
 
