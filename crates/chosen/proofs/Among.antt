@@ -1,4 +1,4 @@
--- The definition's test for an identifier among some is what `contains` answers, and a list is compacted once all of it is passed.
+-- The definition's test for an identifier among some is what `any` answers, and a list is compacted once all of it is passed.
 use Rattle.std.proofs.Common.{◌≡◌, refl, ap, ◌∙◌, arith, eqb, ℕ, ◌≤◌, Bool, ◌||◌, List, length, take}
 use Rattle.std.proofs.Math.ListN.{get_or, set}
 use Rattle.std.proofs.Math.Seq.{set-get_or}
