@@ -12,7 +12,7 @@
  * calls may be made from several threads at once, each with its own buffers to write; they may read the same table, as long as nobody
  * writes it meanwhile.
  *
- * Stack. Over the stored cases of this project a run took at most 18,224 bytes of machine stack on x86-64, reading a text 25,336, of which
+ * Stack. Over the stored cases of this project a run took at most 18,176 bytes of machine stack on x86-64, reading a text 25,224, of which
  * 23,727 are room for the table that is checked before it is written, printing a table 1,416, and every other call no more than 2,008
  * (docs/MEASUREMENTS.md). This is measured, not proved: allow 26,624 for a run, 32,768 for reading a text, and 6,656 for any other call.
  *
